@@ -1,0 +1,9 @@
+pub mod EffectLaws
+pub mod Events
+pub mod Files
+pub mod LoadLaws
+pub mod Loops
+pub mod Pieces
+pub mod Taken
+pub mod Untold
+pub mod Writes

@@ -1,0 +1,5 @@
+pub mod Causes
+pub mod Effects
+pub mod Host
+pub mod Memory
+pub mod Outside
