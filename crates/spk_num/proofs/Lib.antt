@@ -1,0 +1,6 @@
+pub mod DrawSteps
+pub mod Lengths
+pub mod LogarithmSteps
+pub mod Values
+pub mod Words
+pub mod Zeros
