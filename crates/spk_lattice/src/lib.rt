@@ -1,0 +1,6 @@
+//! Lattices: their styles, extents and sites.
+#![tactic(auto)]
+
+pub mod lattice;
+
+pub use lattice::{Lattice, LatticeFault};
