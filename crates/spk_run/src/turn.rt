@@ -1,0 +1,117 @@
+//! A turn of the sites of a rank: events by the kinetic Monte Carlo rule until the end of a window.
+
+ghost use Rattle.std.specs.Prelude.{◌≡◌, ℕ, suc, ◌+◌, ◌<◌, IfNone, IfSome};
+ghost use Rattle.spk_run.specs.Turn.{propensities_of, turn_from, turn_of};
+
+use crate::propensities::Propensities;
+use crate::sites::Sites;
+use spk_num::logarithm::wait;
+
+impl Sites {
+    /// Does the next event, if it comes before so many ticks have passed, and gives the time that it took.
+    fn event(&mut self, propensities: &mut Propensities, rest: u64) -> Option<u64>
+        requires { propensities.old ≡ propensities_of self.old.values }
+        ensures ends { IfNone result ((more local : ℕ) →
+            turn_from (suc more) (local + rest) local self.old ≡ self.new) }
+        ensures goes { IfSome result (λ ticks. (more local : ℕ) →
+            turn_from (suc more) (local + rest) local self.old
+            ≡ turn_from more (local + rest) (local + ticks) self.new) }
+        ensures within { IfSome result (λ ticks. ticks < rest) }
+        ensures afresh { propensities.new ≡ propensities_of self.new.values }
+    {
+        let total = propensities.total();
+        if total == 0 {
+            return None;
+        }
+        let target = self.stream.below_two(total);
+        let ticks = wait(total, self.stream.next());
+        if ticks >= rest {
+            return None;
+        }
+        let place = propensities.place_of(target);
+        propensities.turn_site(&mut self.values, place);
+        self.accepted = self.accepted.saturating_add(1);
+        Some(ticks)
+    }
+
+    /// A turn with a window of so many ticks: events, one after another, until the next would reach its end.
+    pub fn turn(&mut self, propensities: &mut Propensities, window: u64)
+        requires { propensities.old ≡ propensities_of self.old.values }
+        ensures sites { self.new ≡ turn_of window self.old }
+        ensures afresh { propensities.new ≡ propensities_of self.new.values }
+    {
+        let mut local = 0;
+        'events: for _ in 0..window {
+            match self.event(propensities, window - local) {
+                Some(ticks) => local += ticks,
+                None => return,
+            }
+        }
+    }
+}
+
+#[cfg(test)]
+mod tests {
+    use super::*;
+    use crate::sites::Values;
+    use spk_num::stream::Stream;
+    use std::process::Abort;
+    use std::test::Fail;
+
+    /// The values are these digits.
+    fn expect_values(rt: &impl Abort, values: &Values, digits: &str) {
+        assert_eq!(rt; values.len(), digits.len());
+        for (place, digit) in digits.as_bytes().iter().enumerate() {
+            let want = u32::from(digit.saturating_sub(b'0'));
+            assert_eq!(rt; values.get(place), want, "at {place}");
+        }
+    }
+
+    // The stream's state, the window, and the values that are drawn; by the plain rule, which takes all propensities
+    // afresh before each event, the values that a turn leaves, the state that it leaves, and how many events it did.
+    #[test]
+    fn turns_by_the_plain_rule(rt: HostRuntime) -> Result<(), Fail> {
+        for (start, window, drawn, left, state, accepted) in [
+            (1, 3_000_000_000, "1", "2", 101027544, 1),
+            (5, 2_000_000_000, "12", "11", 1425577356, 1),
+            (7, 1_000_000_000, "121", "111", 1365616214, 3),
+            (99, 2_000_000_000, "11212", "12221", 395000257, 7),
+            (3, 1, "11112211", "11112211", 323209673, 0),
+            (8, 9_000_000_000, "11121211111", "22221111111", 78055325, 24),
+        ] {
+            assert!(rt; drawn.len() < 12);
+            let mut values = Values::filled(rt.alloc(), drawn.len() as u32, 1)?;
+            let mut stream = Stream::of_state(start).ok_or("a draw")?;
+            values.draw(1, 2, &mut stream);
+            expect_values(&rt, &values, drawn);
+            let mut propensities = Propensities::of(rt.alloc(), &values)?;
+            let mut sites = Sites {
+                values,
+                stream,
+                accepted: 0,
+            };
+            sites.turn(&mut propensities, window);
+            expect_values(&rt, &sites.values, left);
+            assert_eq!(rt; sites.stream.state(), state);
+            assert_eq!(rt; sites.accepted, accepted);
+        }
+        Ok(())
+    }
+
+    #[test]
+    fn draws_nothing_where_all_values_are_equal(rt: HostRuntime) -> Result<(), Fail> {
+        let values = Values::filled(rt.alloc(), 4, 2)?;
+        let stream = Stream::of_state(31).ok_or("a draw")?;
+        let mut propensities = Propensities::of(rt.alloc(), &values)?;
+        let mut sites = Sites {
+            values,
+            stream,
+            accepted: u64::MAX,
+        };
+        sites.turn(&mut propensities, u64::MAX);
+        expect_values(&rt, &sites.values, "2222");
+        assert_eq!(rt; sites.stream.state(), 31);
+        assert_eq!(rt; sites.accepted, u64::MAX);
+        Ok(())
+    }
+}
