@@ -2,5 +2,6 @@ pub mod DrawSteps
 pub mod Lengths
 pub mod LogarithmSteps
 pub mod Values
+pub mod Wholes
 pub mod Words
 pub mod Zeros

@@ -1,3 +1,4 @@
 pub mod Decimal
 pub mod Draws
 pub mod Logarithm
+pub mod Whole

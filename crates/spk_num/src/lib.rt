@@ -8,6 +8,8 @@ pub mod logarithm;
 pub mod stream;
 pub mod style;
 pub mod text;
+pub mod texts;
+pub mod whole;
 
 /// What a call that takes memory answers where there is none.
 pub type OutOfMemory = std::alloc::AllocError;
