@@ -14,7 +14,7 @@ IsAllowedByte b = is_allowed b ≡ true
 abbrev pub IsAllowed : List ℕ → Type 0
 IsAllowed line = list_all is_allowed line ≡ true
 
-bytes_of : (line : List ℕ) → IsAllowed line → All IsAllowedByte line
+pub bytes_of : (line : List ℕ) → IsAllowed line → All IsAllowedByte line
 bytes_of line allowed = AllPass-from_list_all is_allowed line allowed
 
 line_of : (line : List ℕ) → All IsAllowedByte line → IsAllowed line

@@ -42,7 +42,7 @@ place_or_len p xs =
     ]
 
 -- one byte more in front
-by_bool : {P : Type 0} (v : Bool) → (v ≡ true → P) → (v ≡ false → P) → P
+pub by_bool : {P : Type 0} (v : Bool) → (v ≡ true → P) → (v ≡ false → P) → P
 by_bool {P} v so otherwise = (elim v as (λ w. v ≡ w → P) [ true ↦ so | false ↦ otherwise ]) refl
 
 one_more : (n : ℕ) → 1 + n ≡ suc n
@@ -100,7 +100,7 @@ quoted_closed (b ∷ text) within =
     rw (plain, one_more) (ap (put_byte b) (quoted_closed text (omega arith)) ∙ byte_of_word b _ true _))
 
 -- a text of allowed bytes is ASCII
-allowed_below : (b : ℕ) → is_allowed b ≡ true → b < 128
+pub allowed_below : (b : ℕ) → is_allowed b ≡ true → b < 128
 allowed_below b is = grind (arith, nat_tests)
 
 pub allowed_is_ascii : (text : List ℕ) → list_all is_allowed text ≡ true → IsAscii text

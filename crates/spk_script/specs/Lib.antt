@@ -1,3 +1,17 @@
 pub mod Cuts
+pub mod Evaluation
+pub mod Faults
+pub mod Forms
+pub mod Formulas
+pub mod Frames
 pub mod Lines
+pub mod Machine
+pub mod Parts
+pub mod References
+pub mod Replacing
+pub mod Scripts
+pub mod Standing
+pub mod Tables
+pub mod Values
+pub mod WordParts
 pub mod Words

@@ -1,6 +1,6 @@
 -- The logical lines of a script: its physical lines, joined where one goes on in the next, each with its words.
 use Rattle.std.specs.Prelude.{◌≡◌, ℕ, ◌+◌, ◌-◌, Bool, false, not, ◌==◌, nat_lt, if◌then◌else◌, List, [], ◌∷◌, ◌++◌, length, get_or, take, map, reverse, Option, Some, None, Result, Ok, Err}
-use Rattle.std.specs.List.{slice_split, position, concat}
+use Rattle.std.specs.List.{slice_split, position, concat, find}
 use Rattle.spk_script.specs.declared.words.Word.{Word}
 use Rattle.spk_script.specs.declared.script.ScriptFault.{ScriptFault}
 use Rattle.spk_script.specs.declared.script.ScriptFault.TheVariants.{TooLong, NotAscii, TooManyLines, OpenQuote, Memory}
@@ -12,6 +12,10 @@ pub record LogicalLine : Type 0 where
   pub number : ℕ
   pub raw : List ℕ
   pub words : List Word
+
+-- a line with a word is a command
+abbrev pub is_command : LogicalLine → Bool
+is_command line = nat_lt 0 (length line.words)
 
 -- the physical lines, without their line feeds; where nothing stands behind the last line feed, that is no line
 abbrev pub is_empty_at_end : List (List ℕ) → Bool
@@ -100,3 +104,7 @@ IsFault lines (NotAscii place) = lines ≡ Err (NotAscii place)
 IsFault lines TooManyLines = lines ≡ Err TooManyLines
 IsFault lines (OpenQuote number) = lines ≡ Err (OpenQuote number)
 IsFault lines Memory = Unit
+
+-- the logical line with this number
+abbrev pub line_numbered : List LogicalLine → ℕ → Option LogicalLine
+line_numbered lines number = find (λ line. line.number == number) lines

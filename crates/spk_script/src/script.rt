@@ -1,7 +1,9 @@
 //! A script, read whole: its logical lines.
 
-ghost use Rattle.std.specs.Prelude.{◌≡◌, IfOk, IfErr};
-ghost use Rattle.spk_script.specs.Lines.{lines_of, IsFault};
+ghost use Rattle.std.specs.Prelude.{◌≡◌, IsSome, IfSome, IfOk, IfErr};
+ghost use Rattle.std.specs.Option.{option_map};
+ghost use Rattle.spk_script.specs.Lines.{lines_of, is_command, line_numbered, IsFault};
+ghost use Rattle.spk_script.specs.Scripts.{IsScript};
 
 use crate::bytes::first_not_allowed;
 use crate::logical::logical_lines;
@@ -57,6 +59,29 @@ impl Model for Line {
     ghost view = { λ l. record { number = l.number; raw = l.raw.items; words = l.words.items } };
 }
 
+impl Line {
+    /// Whether it has a word, and so is a command.
+    pub fn is_command(&self) -> bool
+        ensures { result ≡ is_command self.now }
+    {
+        !self.words.is_empty()
+    }
+
+    /// The number of its first physical line, counted from 1.
+    pub fn number(&self) -> u32
+        ensures { result ≡ self.now.number }
+    {
+        self.number
+    }
+
+    /// Its words, before names in them are replaced.
+    pub fn words(&self) -> &[Word]
+        ensures { result.now ≡ self.now.words }
+    {
+        &self.words
+    }
+}
+
 /// A script, read whole: its logical lines from the top.
 #[derive(Debug, Drop)]
 pub struct Script {
@@ -66,10 +91,13 @@ pub struct Script {
 impl Model for Script {
     ghost use Rattle.std.specs.Prelude.{List};
     ghost use Rattle.spk_script.specs.Lines.{LogicalLine};
+    ghost use Rattle.spk_script.specs.Scripts.{IsScript};
 
     ghost Value = { List LogicalLine };
 
     ghost view = { λ s. s.lines.items };
+
+    ghost invariant = { λ s. IsScript s.lines.items };
 }
 
 impl Script {
@@ -91,6 +119,35 @@ impl Script {
         }
         let lines = logical_lines(alloc, &physical)?;
         Ok(Script { lines })
+    }
+
+    /// The logical lines from the top.
+    pub fn lines(&self) -> &[Line]
+        ensures lines { result.now ≡ self.now }
+        ensures script { IsScript result.now }
+    {
+        &self.lines
+    }
+
+    /// The physical lines of the logical line with this number as they stand, each with a line feed.
+    pub fn raw(&self, line: u32) -> &[u8]
+        requires { IsSome (line_numbered self.now line) }
+        ensures { IfSome (line_numbered self.now line) (λ found. result.now ≡ found.raw) }
+    {
+        match self.line_numbered(line) {
+            Some(found) => &found.raw,
+            None => unreachable!(),
+        }
+    }
+
+    // The logical line with this number.
+    fn line_numbered(&self, number: u32) -> Option<&Line>
+        ensures { option_map (λ line. line.now) result ≡ line_numbered self.now number }
+    {
+        match self.lines.binary_search_by_key(&number, |line| line.number) {
+            Ok(place) => Some(&self.lines[place]),
+            Err(_) => None,
+        }
     }
 }
 
@@ -139,6 +196,39 @@ mod tests {
             match Script::read(rt.alloc(), bytes) {
                 Ok(script) => {
                     let text = told(rt.alloc(), &script)?;
+                    assert_eq!(rt; text.as_str(), *wanted);
+                }
+                Err(fault) => panic!(rt; "{fault:?} at {wanted}"),
+            }
+        }
+        Ok(())
+    }
+
+    // The physical lines of each logical line, found by its number, with a bar behind them.
+    fn raws(alloc: Global, script: &Script) -> Result<String, AllocError> {
+        let mut text = String::new(alloc);
+        for line in script.lines() {
+            for byte in script.raw(line.number) {
+                text.push(*byte as char)?;
+            }
+            text.push('|')?;
+        }
+        Ok(text)
+    }
+
+    #[test]
+    fn finds_raw_lines(rt: HostRuntime) -> Result<(), Fail> {
+        let cases: [(&[u8], &str); 5] = [
+            (b"", ""),
+            (b"print &\nhello\n", "print &\nhello\n|"),
+            (b"seed 1\n\nrun  2 # two", "seed 1\n|\n|run  2 # two\n|"),
+            (b"a &\nb &\nc\nd &", "a &\nb &\nc\n|d &\n|"),
+            (b"\n\n\na\nb\nc &\n&\n", "\n|\n|\n|a\n|b\n|c &\n&\n|"),
+        ];
+        for (bytes, wanted) in &cases {
+            match Script::read(rt.alloc(), bytes) {
+                Ok(script) => {
+                    let text = raws(rt.alloc(), &script)?;
                     assert_eq!(rt; text.as_str(), *wanted);
                 }
                 Err(fault) => panic!(rt; "{fault:?} at {wanted}"),
