@@ -9,7 +9,7 @@ use Rattle.spk_world.specs.Effects.{Effect, Stop, Wrote, ◌>>◌, answers}
 use Rattle.spk_world.proofs.EffectLaws.{wrote_answer}
 use Rattle.spk_run.specs.declared.sites.Sites.{Sites}
 use Rattle.spk_run.specs.Turn.{turn_of}
-use Rattle.spk_run.specs.Plain.{reaches, cycle_end, cycles_of, cycle_ends, cycle_told, cycles_told}
+use Rattle.spk_run.specs.Commands.{reaches, cycle_end, cycles_of, cycle_ends, cycle_told, cycles_told}
 
 -- behind a cycle that isn't the last and reaches no multiple stands no line
 pub untold_cycle : {E : Type 0} {stop : E → Stop} (told : Option Outside) (faults : Faults) (log : Option (List ℕ)) (delta before time : ℕ) (last : Bool) (accepted : ℕ) →

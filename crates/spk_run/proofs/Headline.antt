@@ -7,7 +7,7 @@ use Rattle.spk_world.specs.Causes.{Faults}
 use Rattle.spk_world.specs.Effects.{Effect, ◌>>=◌, answers, writes, Stop, WriteFailed, StopCause, Stands, Wrote}
 use Rattle.spk_world.proofs.EffectLaws.{wrote_then, wrote_failed, wrote_answer}
 use Rattle.spk_run.specs.declared.options.Options.{Options}
-use Rattle.spk_run.specs.declared.answer.Cause.TheVariants.{ScriptTooLong, NotBuilt, FileMissing}
+use Rattle.spk_run.specs.declared.answer.Cause.TheVariants.{ScriptTooLong, NotAscii, OpenQuote, TooManyLines, LineTooLong, TooManyCommands, UnknownVariable, WrongWords, BadName, BadFormula, Inexact, NumberTooLarge, LoopValue, NotStepped, OtherFile, NoSuchLabel, BadStyle, NotBuilt, FileMissing}
 use Rattle.spk_run.specs.declared.answer.Target.{Target}
 use Rattle.spk_run.specs.declared.answer.Target.TheVariants as target
 use Rattle.spk_run.specs.declared.answer.Ending.{Ending}
@@ -71,6 +71,22 @@ cause_by options told now f0 f1 run (Err trouble) done = trouble_cause options f
 file_cause_by_cases : (before now : Faults) (ending : Ending) → EndingFileCause before now ending → AnswerFileCause before now (answer_of ending)
 file_cause_by_cases before now Done cause = tt
 file_cause_by_cases before now (Refused line ScriptTooLong) cause = cause
+file_cause_by_cases before now (Refused line (NotAscii place)) cause = tt
+file_cause_by_cases before now (Refused line OpenQuote) cause = tt
+file_cause_by_cases before now (Refused line TooManyLines) cause = tt
+file_cause_by_cases before now (Refused line LineTooLong) cause = tt
+file_cause_by_cases before now (Refused line TooManyCommands) cause = tt
+file_cause_by_cases before now (Refused line (UnknownVariable name)) cause = tt
+file_cause_by_cases before now (Refused line WrongWords) cause = tt
+file_cause_by_cases before now (Refused line (BadName word)) cause = tt
+file_cause_by_cases before now (Refused line (BadFormula place)) cause = tt
+file_cause_by_cases before now (Refused line Inexact) cause = tt
+file_cause_by_cases before now (Refused line NumberTooLarge) cause = tt
+file_cause_by_cases before now (Refused line LoopValue) cause = tt
+file_cause_by_cases before now (Refused line (NotStepped name)) cause = tt
+file_cause_by_cases before now (Refused line OtherFile) cause = tt
+file_cause_by_cases before now (Refused line (NoSuchLabel label)) cause = tt
+file_cause_by_cases before now (Refused line (BadStyle word)) cause = tt
 file_cause_by_cases before now (Refused line (NotBuilt word)) cause = tt
 file_cause_by_cases before now (Refused line (FileMissing name)) cause = cause
 

@@ -4,8 +4,6 @@ pub mod Headline
 pub mod Loading
 pub mod Logs
 pub mod Obeying
-pub mod Readers
 pub mod Steps
 pub mod Turns
 pub mod Weights
-pub mod Words

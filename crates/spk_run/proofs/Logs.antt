@@ -12,7 +12,7 @@ use Rattle.spk_run.specs.declared.options.Options.{Options}
 use Rattle.spk_run.specs.declared.trouble.WriteTrouble.TheVariants.{Screen, File}
 use Rattle.spk_run.specs.declared.trouble.Trouble.TheVariants.{Memory, Read}
 use Rattle.spk_run.specs.Troubles.{write_stop, stop_of}
-use Rattle.spk_run.specs.Plain.{logged, started_log}
+use Rattle.spk_run.specs.Commands.{logged, started_log}
 
 pub write_stop-screen : (log : Option (List ℕ)) → write_stop log Screen ≡ WriteFailed ScreenPlace
 unfolding write_stop

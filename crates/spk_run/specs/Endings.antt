@@ -4,7 +4,7 @@ use Rattle.spk_world.specs.Outside.{Outside, Place, Screen, File, after}
 use Rattle.spk_world.specs.Causes.{Faults, Rose}
 use Rattle.spk_world.specs.Effects.{Outcome, Effect, LoadFailed, WriteFailed, MemoryWanting, Stopped}
 use Rattle.spk_run.specs.declared.answer.Cause.{Cause}
-use Rattle.spk_run.specs.declared.answer.Cause.TheVariants.{ScriptTooLong, NotBuilt, FileMissing}
+use Rattle.spk_run.specs.declared.answer.Cause.TheVariants.{ScriptTooLong, NotAscii, OpenQuote, TooManyLines, LineTooLong, TooManyCommands, UnknownVariable, WrongWords, BadName, BadFormula, Inexact, NumberTooLarge, LoopValue, NotStepped, OtherFile, NoSuchLabel, BadStyle, NotBuilt, FileMissing}
 use Rattle.spk_run.specs.declared.answer.Target.{Target}
 use Rattle.spk_run.specs.declared.answer.Target.TheVariants as target
 use Rattle.spk_run.specs.declared.answer.Ending.{Ending}
@@ -15,11 +15,43 @@ use Rattle.spk_run.specs.declared.answer.Answer.TheVariants.{Done, Refused, Usag
 -- each cause has a number and a text
 abbrev pub cause_number : Cause → ℕ
 cause_number ScriptTooLong = 101
+cause_number (NotAscii place) = 102
+cause_number OpenQuote = 103
+cause_number TooManyLines = 104
+cause_number LineTooLong = 111
+cause_number TooManyCommands = 112
+cause_number (UnknownVariable name) = 113
+cause_number WrongWords = 114
+cause_number (BadName word) = 115
+cause_number (BadFormula place) = 116
+cause_number Inexact = 117
+cause_number NumberTooLarge = 118
+cause_number LoopValue = 119
+cause_number (NotStepped name) = 120
+cause_number OtherFile = 121
+cause_number (NoSuchLabel label) = 122
+cause_number (BadStyle word) = 123
 cause_number (NotBuilt word) = 206
 cause_number (FileMissing name) = 401
 
 abbrev pub cause_text : Cause → List ℕ
 cause_text ScriptTooLong = codes "script over 1048576 bytes"
+cause_text (NotAscii place) = codes "byte " ++ (decimal place ++ codes " is not allowed")
+cause_text OpenQuote = codes "quote is not closed"
+cause_text TooManyLines = codes "more than 100000 lines"
+cause_text LineTooLong = codes "line over 4096 bytes"
+cause_text TooManyCommands = codes "more than 1000000 commands"
+cause_text (UnknownVariable name) = codes "no variable " ++ name
+cause_text WrongWords = codes "wrong number of words"
+cause_text (BadName word) = codes "bad name " ++ word
+cause_text (BadFormula place) = codes "bad formula at " ++ decimal place
+cause_text Inexact = codes "formula is not exact"
+cause_text NumberTooLarge = codes "formula passes 10^12"
+cause_text LoopValue = codes "bad loop count"
+cause_text (NotStepped name) = codes "variable " ++ (name ++ codes " has no next value")
+cause_text OtherFile = codes "jump to another file"
+cause_text (NoSuchLabel label) = codes "no label " ++ label
+cause_text (BadStyle word) = codes "unknown variable style " ++ word
 cause_text (NotBuilt word) = codes "not built yet " ++ word
 cause_text (FileMissing name) = codes "no file " ++ name
 

@@ -1,25 +1,12 @@
--- The forms of a straight script's lines. The commands are made after SPPARKS's; the ranges are our own.
-use Rattle.std.specs.Prelude.{ℕ, ◌*◌, Bool, ◌&&◌, nat_lt, nat_le, if◌then◌else◌, List, [], ◌∷◌, length, codes, Option, Some, None, Result, Ok, Err, ℤ, pos, negsuc}
+-- The forms of a script's commands, which come in one order. The commands are made after SPPARKS's; the ranges are our own.
+use Rattle.std.specs.Prelude.{ℕ, ◌*◌, Bool, ◌&&◌, nat_le, if◌then◌else◌, List, [], ◌∷◌, codes, Option, Some, None, Result, Ok, Err, ℤ, pos, negsuc}
 use Rattle.std.specs.Option.{option_map, option_and_then}
-use Rattle.std.specs.List.{list_all}
-use Rattle.std.specs.Char.{is_ascii_digit}
 use Rattle.std.specs.Str.{bytes_eq}
-use Rattle.std.specs.Str.Parse.{digits_value}
+use Rattle.spk_num.specs.Whole.{within, whole_within}
 use Rattle.spk_num.specs.Decimal.{millionths_of}
 use Rattle.spk_num.specs.declared.decimal.DecFault.{DecFault}
 use Rattle.spk_run.specs.declared.form.Form.{Form}
 use Rattle.spk_run.specs.declared.form.Form.TheVariants.{Seed, App, MakeLattice, Region, CreateBox, CreateSites, SetValue, SetRange, Temperature, Solve, Stats, Run}
-
--- a number in a range, both ends taken
-abbrev pub within : ℕ → ℕ → ℕ → Option ℕ
-within low high n = if nat_le low n && nat_le n high then Some n else None
-
--- a whole number has 1 to 18 digits
-abbrev pub whole_of : List ℕ → Option ℕ
-whole_of word = if list_all is_ascii_digit word && nat_lt 0 (length word) && nat_le (length word) 18 then Some (digits_value 10 word) else None
-
-abbrev pub whole_within : ℕ → ℕ → List ℕ → Option ℕ
-whole_within low high word = option_and_then (within low high) (whole_of word)
 
 -- a decimal that isn't negative, in millionths
 abbrev pub amount_of : Result ℤ DecFault → Option ℕ
@@ -87,7 +74,7 @@ form_of (name ∷ region ∷ shape ∷ x_low ∷ x_high ∷ y_low ∷ y_high ∷
     region_of (is_box name region shape x_low && is_flat y_low y_high z_low z_high) x_high
 form_of words = None
 
--- which of a script's lines with words has a form, counted from 1
+-- which of a script's commands has a form, counted from 1
 abbrev pub place_of_form : Form → ℕ
 place_of_form (Seed seed) = 1
 place_of_form App = 2

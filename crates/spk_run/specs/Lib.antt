@@ -1,7 +1,8 @@
+pub mod Commands
 pub mod Endings
 pub mod Forms
 pub mod Options
+pub mod Passing
 pub mod Plain
-pub mod Script
 pub mod Troubles
 pub mod Turn

@@ -1,185 +1,106 @@
--- The plain simulator of a straight script: what it writes and answers, given the files that it finds.
-use Rattle.std.specs.Prelude.{ℕ, ◌≤◌, ◌+◌, ◌-◌, ◌*◌, ◌/◌, Bool, ◌&&◌, ◌||◌, ◌==◌, nat_lt, if◌then◌else◌, min, List, [], ◌∷◌, ◌++◌, map, length, replicate, codes, decimal, Option, Some, None, Result, Ok, Err}
-use Rattle.std.specs.Option.{option_map_or}
-use Rattle.std.specs.Result.{result_ok}
-use Rattle.std.specs.List.{list_all, range_with_len}
-use Rattle.spk_num.specs.Decimal.{ticks_text}
-use Rattle.spk_num.specs.Draws.{start_state}
-use Rattle.spk_num.specs.declared.style.Style.TheVariants.{Line2}
-use Rattle.spk_lattice.specs.Layout.{Layout, lattice_of, sites_of}
-use Rattle.spk_world.specs.Outside.{says, adds, starts}
+-- The plain simulator: what it writes and answers, given the files that it finds.
+use Rattle.std.specs.Prelude.{ℕ, zero, suc, List, Option, Some, None, Result, Ok, Err}
+use Rattle.spk_script.specs.declared.fault.LineFault.{LineFault}
+use Rattle.spk_script.specs.declared.fault.LineFault.TheVariants as fault
+use Rattle.spk_script.specs.declared.script.ScriptFault.{ScriptFault}
+use Rattle.spk_script.specs.declared.script.ScriptFault.TheVariants as script
+use Rattle.spk_script.specs.declared.machine.Arrival.{Arrival}
+use Rattle.spk_script.specs.declared.machine.Arrival.TheVariants.{At, End}
+use Rattle.spk_script.specs.declared.machine.Step.{Step as LineStep}
+use Rattle.spk_script.specs.declared.machine.Step.TheVariants as line
+use Rattle.spk_script.specs.Lines.{LogicalLine, lines_of}
+use Rattle.spk_script.specs.Faults.{Judged}
+use Rattle.spk_script.specs.Machine.{State, Arrived, new_state, arrive, line_at, read}
+use Rattle.spk_world.specs.Outside.{says}
 use Rattle.spk_world.specs.Effects.{Effect, ◌>>=◌, ◌>>◌, answers, writes, loads_file}
-use Rattle.spk_run.specs.Script.{is_allowed, lines_of, words_of, is_continued}
 use Rattle.spk_run.specs.Options.{options_of}
-use Rattle.spk_run.specs.Forms.{form_of, place_of_form}
-use Rattle.spk_run.specs.Endings.{refusal_text, usage_text, answer_of, IsOfContent}
+use Rattle.spk_run.specs.Endings.{usage_text, answer_of}
+use Rattle.spk_run.specs.Commands.{logged, started_log, refused, words_obeyed, new_session}
 use Rattle.spk_run.specs.declared.options.Options.{Options}
-use Rattle.spk_run.specs.declared.form.Form.{Form}
-use Rattle.spk_run.specs.declared.form.Form.TheVariants.{Seed, Region, CreateBox, CreateSites, SetValue, SetRange, Stats, Run}
 use Rattle.spk_run.specs.declared.session.Session.{Session}
-use Rattle.spk_run.specs.declared.sites.Sites.{Sites}
-use Rattle.spk_run.specs.Turn.{turn_of, drawn}
 use Rattle.spk_run.specs.declared.session.Step.{Step}
 use Rattle.spk_run.specs.declared.session.Step.TheVariants.{Goes, Ends}
 use Rattle.spk_run.specs.declared.answer.Cause.{Cause}
-use Rattle.spk_run.specs.declared.answer.Cause.TheVariants.{ScriptTooLong, NotBuilt, FileMissing}
+use Rattle.spk_run.specs.declared.answer.Cause.TheVariants.{ScriptTooLong, NotAscii, OpenQuote, TooManyLines, LineTooLong, TooManyCommands, UnknownVariable, WrongWords, BadName, BadFormula, Inexact, NumberTooLarge, LoopValue, NotStepped, OtherFile, NoSuchLabel, BadStyle, FileMissing}
 use Rattle.spk_run.specs.declared.answer.Ending.{Ending}
-use Rattle.spk_run.specs.declared.answer.Ending.TheVariants.{Done, Refused}
+use Rattle.spk_run.specs.declared.answer.Ending.TheVariants.{Done}
 use Rattle.spk_run.specs.declared.answer.Answer.{Answer}
 use Rattle.spk_run.specs.declared.answer.Answer.TheVariants.{Usage}
 
--- a text for the log, where there is one
-abbrev pub logged : Option (List ℕ) → List ℕ → Effect (Unit {0})
-logged None text = answers tt
-logged (Some log) text = writes (adds log text)
+-- What stands behind a command: the machine and the session with which the script goes on, or its end.
+pub data Passed : Type 0 where
+  Onward : State → Session → Passed
+  Over : Ending → Passed
 
--- a text for the screen, and then for the log
-abbrev pub told : Option (List ℕ) → List ℕ → Effect (Unit {0})
-told log text = writes (says text) >> logged log text
+abbrev pub passed : State → Step → Passed
+passed state (Goes session) = Onward state session
+passed state (Ends ending) = Over ending
 
-abbrev pub started_log : Option (List ℕ) → Effect (Unit {0})
-started_log None = answers tt
-started_log (Some log) = writes (starts log)
+-- the cause that a fault of a line is; want of memory is no fault of the line
+abbrev pub cause_of_fault : LineFault → Option Cause
+cause_of_fault fault.LineTooLong = Some LineTooLong
+cause_of_fault (fault.TooManyCommands number) = Some TooManyCommands
+cause_of_fault (fault.UnknownVariable name) = Some (UnknownVariable name)
+cause_of_fault fault.WrongWords = Some WrongWords
+cause_of_fault (fault.BadName word) = Some (BadName word)
+cause_of_fault (fault.BadFormula place) = Some (BadFormula place)
+cause_of_fault fault.Inexact = Some Inexact
+cause_of_fault fault.NumberTooLarge = Some NumberTooLarge
+cause_of_fault fault.LoopValue = Some LoopValue
+cause_of_fault (fault.NotStepped name) = Some (NotStepped name)
+cause_of_fault fault.OtherFile = Some OtherFile
+cause_of_fault (fault.NoSuchLabel label) = Some (NoSuchLabel label)
+cause_of_fault (fault.BadStyle word) = Some (BadStyle word)
+cause_of_fault fault.Memory = None
 
--- the script is refused at a line
-abbrev pub refused : Option (List ℕ) → ℕ → Cause → Effect Ending
-refused log line cause = told log (refusal_text line cause) >> answers (Refused line cause)
+-- a script ends for a fault of the line with this number
+abbrev pub ended_for : Option (List ℕ) → ℕ → Option Cause → Effect Passed
+ended_for log number None = answers (Over Done)
+ended_for log number (Some cause) = refused log number cause >>= λ ending. answers (Over ending)
 
--- a command is echoed as it stands
-abbrev pub echoed : Option (List ℕ) → List ℕ → Effect (Unit {0})
-echoed log line = logged log (line ++ (10 ∷ []))
+-- what the machine has made of a line: a fault, a command of its own, or the words of a command of the session
+abbrev pub line_done : Option (List ℕ) → ℕ → Session → Judged (LineStep × State) → Effect Passed
+line_done log number session (Err fault) = ended_for log number (cause_of_fault fault)
+line_done log number session (Ok (line.Own own, state)) = answers (Onward state session)
+line_done log number session (Ok (line.Words own words, state)) = words_obeyed log own session words >>= λ step. answers (passed state step)
 
--- a line of statistics: the time, the events accepted and rejected, and the sweeps
-unfoldable pub statistics_text : ℕ → ℕ → List ℕ
-statistics_text time accepted = ticks_text time ++ (codes " " ++ (decimal accepted ++ codes " 0 0\n"))
+-- the line that the machine stands at is echoed as it stands in the script, and then read
+abbrev pub line_obeyed : Option (List ℕ) → List LogicalLine → State → Session → Option LogicalLine → Effect Passed
+line_obeyed log lines state session None = answers (Over Done)
+line_obeyed log lines state session (Some line) = logged log line.raw >> line_done log line.number session (read lines state line)
 
--- The cycles of a run of this length take 10^9 ticks each, and the last is cut at its end. These are the times,
--- counted from the run's start, at which they end.
-abbrev pub cycle_end : ℕ → ℕ → ℕ
-cycle_end length cycle = min length (1000000000 * (cycle + 1))
+-- the machine arrives at a command, at the end, or once too often
+abbrev pub arrival_obeyed : Option (List ℕ) → List LogicalLine → State → Session → Judged Arrival → Effect Passed
+arrival_obeyed log lines state session (Ok End) = answers (Over Done)
+arrival_obeyed log lines state session (Ok (At number)) = line_obeyed log lines state session (line_at lines state)
+arrival_obeyed log lines state session (Err (fault.TooManyCommands number)) = ended_for log number (Some TooManyCommands)
+arrival_obeyed log lines state session (Err fault) = answers (Over Done)
 
-abbrev pub cycles_of : ℕ → ℕ
-cycles_of length = (length + 999999999) / 1000000000
+abbrev pub next_obeyed : Option (List ℕ) → List LogicalLine → State → Session → Effect Passed
+next_obeyed log lines state session = arrival_obeyed log lines (arrive lines state).state session (arrive lines state).answer
 
-abbrev pub cycle_ends : ℕ → List ℕ
-cycle_ends length = map (λ cycle. cycle_end length cycle) (range_with_len 0 (cycles_of length))
+abbrev pub gone_on : (State → Session → Effect Ending) → Passed → Effect Ending
+gone_on rest (Onward state session) = rest state session
+gone_on rest (Over ending) = answers ending
 
--- a multiple of the interval of the statistics lies behind the first of two times, and not behind the second; both are
--- counted from the run's start
-abbrev pub reaches : ℕ → ℕ → ℕ → Bool
-reaches delta before time = nat_lt 0 delta && nat_lt (before / delta) (time / delta)
+-- the commands of a script, of which so many at most are arrived at
+unfoldable pub commands_obeyed : ℕ → Option (List ℕ) → List LogicalLine → State → Session → Effect Ending
+commands_obeyed zero log lines state session = answers Done
+commands_obeyed (suc more) log lines state session = next_obeyed log lines state session >>= gone_on (commands_obeyed more log lines)
 
--- behind a cycle stands a line where it is the last, or where a multiple of the interval was reached
-abbrev pub cycle_told : Option (List ℕ) → ℕ → ℕ → ℕ → Bool → ℕ → Effect (Unit {0})
-cycle_told log delta before time last accepted =
-    if last || reaches delta before time then told log (statistics_text time accepted) else answers tt
-
--- each cycle is a turn of the sites, and then its line
-abbrev pub cycles_told : Option (List ℕ) → ℕ → ℕ → Sites → List ℕ → Effect Sites
-cycles_told log delta before sites [] = answers sites
-cycles_told log delta before sites (time ∷ times) =
-    cycle_told log delta before time (length times == 0) (turn_of (time - before) sites).accepted
-    >> cycles_told log delta time (turn_of (time - before) sites) times
-
--- a run writes a header, a line at its start, and lines behind its cycles
-abbrev pub ran : Option (List ℕ) → ℕ → ℕ → Sites → Effect Sites
-ran log delta length sites = do
-  told log (codes "Time Naccept Nreject Nsweeps\n")
-  told log (statistics_text 0 sites.accepted)
-  cycles_told log delta 0 sites (cycle_ends length)
-
--- how many sites there are, once there is a lattice
-abbrev pub sites_in : Option Layout → ℕ
-sites_in lattice = option_map_or sites_of lattice 0
-
-abbrev pub with_values : Session → List ℕ → Session
-with_values session values = record session { sites = record session.sites { values = values } }
-
--- the box has its lattice, and with it the rank's stream starts, and nothing is counted yet
-abbrev pub with_box : Session → Session
-with_box session = record session {
-  lattice = result_ok (lattice_of (record { style = Line2; nx = session.cells; ny = 1; nz = 1 }));
-  sites = record session.sites { stream = start_state session.seed 0; accepted = 0 };
-}
-
--- What a command sets. New sites have the value 1. Values that are drawn have a stream of their own.
-abbrev pub set_by : Form → Session → Session
-set_by (Seed seed) session = record session { seed = seed }
-set_by (Region cells) session = record session { cells = cells }
-set_by CreateBox session = with_box session
-set_by CreateSites session = with_values session (replicate (sites_in session.lattice) 1)
-set_by (SetValue value) session = with_values session (replicate (length session.sites.values) value)
-set_by (SetRange range) session = with_values session (drawn (length session.sites.values) range.0 range.1 (start_state session.seed 4097))
-set_by (Stats delta) session = record session { delta = delta }
-set_by form session = session
-
-abbrev pub counted : Session → Session
-counted session = record session { obeyed = session.obeyed + 1 }
-
-abbrev pub with_sites : Session → Sites → Session
-with_sites session sites = record session { sites = sites }
-
--- a command in its place is obeyed
-abbrev pub obeyed_by : Option (List ℕ) → Form → Session → Effect Session
-obeyed_by log (Run length) session = ran log session.delta length session.sites >>= λ sites. answers (counted (with_sites session sites))
-obeyed_by log form session = answers (counted (set_by form session))
-
--- a form that stands in its place, behind so many others
-abbrev pub in_place : ℕ → Option Form → Option Form
-in_place obeyed None = None
-in_place obeyed (Some form) = if place_of_form form == obeyed + 1 then Some form else None
-
--- where a script goes on behind a line, at most so many commands were obeyed; where it ends, it is for what it has in it
-abbrev pub IsLineStep : ℕ → Step → Type 0
-IsLineStep most (Goes session) = session.obeyed ≤ most
-IsLineStep most (Ends ending) = IsOfContent ending
-
--- a script ends at a line that is refused
-abbrev pub ended : Option (List ℕ) → ℕ → Cause → Effect Step
-ended log number cause = refused log number cause >>= λ ending. answers (Ends ending)
-
--- a command whose first word is this: it is obeyed where it has the next form, and else refused
-abbrev pub command_obeyed : Option (List ℕ) → ℕ → Session → List ℕ → Option Form → Effect Step
-command_obeyed log number session first None = ended log number (NotBuilt first)
-command_obeyed log number session first (Some form) = obeyed_by log form session >>= λ next. answers (Goes next)
-
--- a line by its words: one without a word does nothing, a command is echoed first
-abbrev pub words_obeyed : Option (List ℕ) → ℕ → Session → List ℕ → List (List ℕ) → Effect Step
-words_obeyed log number session line [] = answers (Goes session)
-words_obeyed log number session line (first ∷ rest) =
-    echoed log line >> command_obeyed log number session first (in_place session.obeyed (form_of (first ∷ rest)))
-
--- a line with this number
-abbrev pub line_obeyed : Option (List ℕ) → ℕ → Session → List ℕ → Effect Step
-line_obeyed log number session line =
-    if is_continued line then echoed log line >> ended log number (NotBuilt (codes "&"))
-    else words_obeyed log number session line (words_of line)
-
-abbrev pub gone_on : (Session → Effect Ending) → Step → Effect Ending
-gone_on rest (Goes session) = rest session
-gone_on rest (Ends ending) = answers ending
-
--- the lines from this number on
-abbrev pub lines_obeyed : Option (List ℕ) → ℕ → Session → List (List ℕ) → Effect Ending
-lines_obeyed log number session [] = answers Done
-lines_obeyed log number session (line ∷ lines) =
-    line_obeyed log number session line >>= gone_on (λ next. lines_obeyed log (number + 1) next lines)
-
--- before there is a box there are no sites, and the stream is that of no seed
-abbrev pub no_sites : Sites
-no_sites = record { values = []; stream = 1; accepted = 0 }
-
--- the session before the first line
-abbrev pub new_session : Session
-new_session = record { obeyed = 0; seed = 1; cells = 0; lattice = None; sites = no_sites; delta = 0 }
+-- a script that was read is obeyed from its first line; a run of a script ends at its arrival 1000001 at the latest
+abbrev pub script_read : Options → Result (List LogicalLine) ScriptFault → Effect Ending
+script_read options (Ok lines) = commands_obeyed 1000001 options.log lines new_state new_session
+script_read options (Err script.TooLong) = refused options.log 0 ScriptTooLong
+script_read options (Err (script.NotAscii place)) = refused options.log 0 (NotAscii place)
+script_read options (Err script.TooManyLines) = refused options.log 0 TooManyLines
+script_read options (Err (script.OpenQuote number)) = refused options.log number OpenQuote
+script_read options (Err script.Memory) = answers Done
 
 -- a script that was loaded, or that isn't there
 abbrev pub script_obeyed : Options → Option (List ℕ) → Effect Ending
 script_obeyed options None = refused options.log 0 (FileMissing options.script)
-script_obeyed options (Some script) =
-    if nat_lt 1048576 (length script) then refused options.log 0 ScriptTooLong
-    else (if list_all is_allowed script then lines_obeyed options.log 1 new_session (lines_of script)
-    else refused options.log 0 (NotBuilt []))
+script_obeyed options (Some script) = script_read options (lines_of script)
 
 -- the script is loaded, and then obeyed
 abbrev pub file_obeyed : Options → Effect Ending

@@ -34,8 +34,39 @@ pub enum Target {
 pub enum Cause {
     /// It has more than 1048576 bytes.
     ScriptTooLong,
-    /// A line with this first word isn't built yet. The word is `&` where a line goes on in the next one, and empty where
-    /// the script has a byte that isn't allowed.
+    /// No script may have the byte at this place, counted from 0.
+    NotAscii(u32),
+    /// A quote isn't closed.
+    OpenQuote,
+    /// It has more than 100000 lines.
+    TooManyLines,
+    /// The words of the line take more than 4096 bytes.
+    LineTooLong,
+    /// A run of it arrives at more than 1000000 commands.
+    TooManyCommands,
+    /// No variable has this name.
+    UnknownVariable(Text),
+    /// A command of the script's language takes another number of words.
+    WrongWords,
+    /// This word is no name.
+    BadName(Text),
+    /// A byte of a formula can't stand at this place, counted from 0.
+    BadFormula(u32),
+    /// The result of an operation has more than six places, or a divisor is 0.
+    Inexact,
+    /// The result of an operation passes 10^12.
+    NumberTooLarge,
+    /// A loop has 1 to 1000000 turns.
+    LoopValue,
+    /// The variable with this name has no next value, whatever its value is.
+    NotStepped(Text),
+    /// A jump leads to another file.
+    OtherFile,
+    /// No line is this label.
+    NoSuchLabel(Text),
+    /// No variable has this style.
+    BadStyle(Text),
+    /// A command with this first word isn't built yet.
     NotBuilt(Text),
     /// No file has this name.
     FileMissing(Text),

@@ -1,17 +1,17 @@
-//! The forms of a straight script's lines.
+//! The forms of a script's commands.
 
-ghost use Rattle.std.specs.Prelude.{◌≡◌, ◌≤◌, ◌<◌, ◌*◌, ◌^◌, ◌&&◌, nat_lt, nat_le, length, IfSome};
+ghost use Rattle.std.specs.Prelude.{◌≡◌, ◌≤◌, ◌<◌, ◌*◌, ◌^◌, IfSome};
 ghost use Rattle.std.specs.Option.{option_map};
-ghost use Rattle.std.specs.Char.{is_ascii_digit};
-ghost use Rattle.std.specs.List.{list_all};
 ghost use Rattle.spk_num.specs.Decimal.{millionths_of};
-ghost use Rattle.spk_run.specs.Forms.{whole_of, whole_within, amount_of, decimal_within, ticks_within, fixed, form_of_two, form_of_three, form_of_four, form_of_five, range_from, is_box, is_flat, region_of, form_of, place_of_form, within};
+ghost use Rattle.spk_num.specs.Whole.{whole_within};
+ghost use Rattle.spk_run.specs.Forms.{amount_of, decimal_within, ticks_within, fixed, form_of_two, form_of_three, form_of_four, form_of_five, range_from, is_box, is_flat, region_of, form_of, place_of_form};
 
 use crate::numbers::{Seed, ValueRange};
 use spk_num::decimal::Dec;
 use spk_num::text::Text;
+use spk_num::whole::{whole_within, within};
 
-/// A line of a straight script, with its numbers.
+/// A command of a script, with its numbers.
 #[derive(Clone, Copy, Debug)]
 pub enum Form {
     Seed(Seed),
@@ -31,7 +31,7 @@ pub enum Form {
 }
 
 impl Form {
-    /// Which of a script's lines with words has this form, counted from 1.
+    /// Which of a script's commands has this form, counted from 1.
     pub fn place(&self) -> u32
         ensures { result ≡ place_of_form self.now }
     {
@@ -54,7 +54,7 @@ impl Form {
 // The longest time of a command, in millionths.
 const LONGEST: u64 = 1_000_000_000_000_000;
 
-/// The form of a line with these words, if it has one.
+/// The form of a command with these words, if it has one.
 pub fn form_of(words: &[Text]) -> Option<Form>
     ensures { result ≡ form_of words.now }
 {
@@ -207,48 +207,6 @@ fn region_of(fits: bool, x_high: &Text) -> Option<Form>
     }
 }
 
-/// A number in a range, both ends taken.
-fn within(low: u64, high: u64, number: u64) -> Option<u64>
-    ensures { result ≡ within low high number }
-{
-    if low <= number && number <= high {
-        Some(number)
-    } else {
-        None
-    }
-}
-
-fn are_digits(word: &[u8]) -> bool
-    ensures { result ≡ list_all is_ascii_digit word.now }
-{
-    word.iter().all(|byte| byte.is_ascii_digit())
-}
-
-/// Whether a word is a whole number: it has 1 to 18 digits.
-fn is_whole(word: &[u8]) -> bool
-    ensures { result ≡ (list_all is_ascii_digit word.now && nat_lt 0 (length word.now) && nat_le (length word.now) 18) }
-{
-    are_digits(word) && !word.is_empty() && word.len() <= 18
-}
-
-#[tactic(auto, using(crate::proofs::Words::whole_reads))]
-fn whole_of(word: &Text) -> Option<u64>
-    ensures { result ≡ whole_of word.now }
-{
-    if is_whole(word.as_bytes()) {
-        word.as_str().parse::<u64>().ok()
-    } else {
-        None
-    }
-}
-
-fn whole_within(low: u64, high: u64, word: &Text) -> Option<u64>
-    ensures value { result ≡ whole_within low high word.now }
-    ensures range { IfSome result (λ number. number ≤ high) }
-{
-    within(low, high, whole_of(word)?)
-}
-
 /// A decimal that isn't negative, in millionths.
 fn amount_of(word: &Text) -> Option<u64>
     ensures { result ≡ amount_of (millionths_of word.now) }
@@ -277,14 +235,15 @@ fn ticks_within(high: u64, word: &Text) -> Option<u64>
 #[cfg(test)]
 mod tests {
     use super::*;
-    use crate::script::{all_allowed, words_of};
     use std::alloc::{AllocError, Global};
-    use std::process::Abort;
     use std::test::Fail;
 
-    fn read(rt: &impl Abort, alloc: Global, line: &[u8]) -> Result<Option<Form>, AllocError> {
-        assert!(rt; all_allowed(line));
-        Ok(form_of(&words_of(alloc, line)?))
+    fn read(alloc: Global, line: &str) -> Result<Option<Form>, AllocError> {
+        let mut words = Vec::new(alloc);
+        for word in line.split(' ') {
+            words.push(Text::copy(alloc, word)?)?;
+        }
+        Ok(form_of(&words))
     }
 
     // The form's place, and its number.
@@ -303,30 +262,30 @@ mod tests {
 
     #[test]
     fn takes(rt: HostRuntime) -> Result<(), Fail> {
-        let cases: [(&[u8], u32, u64); 20] = [
-            (b"seed 1", 1, 1),
-            (b"seed 000000002147483646", 1, 2_147_483_646),
-            (b"app_style ising", 2, 0),
-            (b"lattice line/2n 0.000001", 3, 0),
-            (b"lattice line/2n 1000000", 3, 0),
-            (b"region box block 0 3 0 1 0 1", 4, 3),
-            (b"region box block 0 4194304 0 1 0 1", 4, 4_194_304),
-            (b"region box block 0 0000000000004 0 1 0 1", 4, 4),
-            (b"create_box box", 5, 0),
-            (b"create_sites box", 6, 0),
-            (b"set site value 1", 7, 1),
-            (b"set site value 2", 7, 2),
-            (b"temperature 0.0", 8, 0),
-            (b"temperature -0", 8, 0),
-            (b"temperature .0", 8, 0),
-            (b"solve_style linear", 9, 0),
-            (b"stats 0.5", 10, 500_000_000),
-            (b"stats 1000000000", 10, 1_000_000_000_000_000_000),
-            (b"run 0", 11, 0),
-            (b"run 1000000000", 11, 1_000_000_000_000_000_000),
+        let cases: [(&str, u32, u64); 20] = [
+            ("seed 1", 1, 1),
+            ("seed 000000002147483646", 1, 2_147_483_646),
+            ("app_style ising", 2, 0),
+            ("lattice line/2n 0.000001", 3, 0),
+            ("lattice line/2n 1000000", 3, 0),
+            ("region box block 0 3 0 1 0 1", 4, 3),
+            ("region box block 0 4194304 0 1 0 1", 4, 4_194_304),
+            ("region box block 0 0000000000004 0 1 0 1", 4, 4),
+            ("create_box box", 5, 0),
+            ("create_sites box", 6, 0),
+            ("set site value 1", 7, 1),
+            ("set site value 2", 7, 2),
+            ("temperature 0.0", 8, 0),
+            ("temperature -0", 8, 0),
+            ("temperature .0", 8, 0),
+            ("solve_style linear", 9, 0),
+            ("stats 0.5", 10, 500_000_000),
+            ("stats 1000000000", 10, 1_000_000_000_000_000_000),
+            ("run 0", 11, 0),
+            ("run 1000000000", 11, 1_000_000_000_000_000_000),
         ];
         for (line, place, number) in &cases {
-            let form = read(&rt, rt.alloc(), line)?;
+            let form = read(rt.alloc(), line)?;
             assert_eq!(rt; shown(form), (*place, *number));
         }
         Ok(())
@@ -334,38 +293,38 @@ mod tests {
 
     #[test]
     fn refuses(rt: HostRuntime) -> Result<(), Fail> {
-        let lines: [&[u8]; 28] = [
-            b"",
-            b"seed",
-            b"seed 0",
-            b"seed 2147483647",
-            b"seed -1",
-            b"seed 0000000002147483646",
-            b"seed 1 2",
-            b"app_style potts",
-            b"lattice line/2n 0",
-            b"lattice line/2n 1000000.000001",
-            b"lattice sq/4n 1",
-            b"lattice line/2n",
-            b"region box block 0 2 0 1 0 1",
-            b"region box block 0 4194305 0 1 0 1",
-            b"region box block 1 4 0 1 0 1",
-            b"region box block 0 4 0 1 0 2",
-            b"region box block 0 4 0 1",
-            b"create_box region",
-            b"run -1",
-            b"create_sites region",
-            b"set site value 0",
-            b"set site value 3",
-            b"set i2 value 1",
-            b"temperature 0.000001",
-            b"solve_style tree",
-            b"stats -1",
-            b"stats 1000000000.000001",
-            b"run 1000000000.000001",
+        let lines: [&str; 28] = [
+            "",
+            "seed",
+            "seed 0",
+            "seed 2147483647",
+            "seed -1",
+            "seed 0000000002147483646",
+            "seed 1 2",
+            "app_style potts",
+            "lattice line/2n 0",
+            "lattice line/2n 1000000.000001",
+            "lattice sq/4n 1",
+            "lattice line/2n",
+            "region box block 0 2 0 1 0 1",
+            "region box block 0 4194305 0 1 0 1",
+            "region box block 1 4 0 1 0 1",
+            "region box block 0 4 0 1 0 2",
+            "region box block 0 4 0 1",
+            "create_box region",
+            "run -1",
+            "create_sites region",
+            "set site value 0",
+            "set site value 3",
+            "set i2 value 1",
+            "temperature 0.000001",
+            "solve_style tree",
+            "stats -1",
+            "stats 1000000000.000001",
+            "run 1000000000.000001",
         ];
         for line in &lines {
-            let form = read(&rt, rt.alloc(), line)?;
+            let form = read(rt.alloc(), line)?;
             assert_eq!(rt; shown(form), (0, 0));
         }
         Ok(())

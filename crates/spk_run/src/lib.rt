@@ -2,15 +2,15 @@
 #![tactic(auto)]
 
 mod answer;
+mod commands;
 mod form;
-mod lines;
 mod messages;
 mod numbers;
 mod options;
 mod output;
 mod propensities;
 mod run;
-mod script;
+mod script_run;
 mod session;
 mod simulate;
 mod sites;

@@ -1,9 +1,9 @@
 //! What the simulator writes: to the screen, to the log, and the lines of its refusals.
 
-ghost use Rattle.std.specs.Prelude.{◌≡◌, ◌++◌, ◌∷◌, [], List, ℕ, Option, IfOk};
+ghost use Rattle.std.specs.Prelude.{◌≡◌, List, ℕ, Option, IfOk};
 ghost use Rattle.spk_world.specs.Outside.{says};
 ghost use Rattle.spk_world.specs.Effects.{writes, Wrote};
-ghost use Rattle.spk_run.specs.Plain.{logged, told, started_log, echoed, refused};
+ghost use Rattle.spk_run.specs.Commands.{logged, told, started_log, refused};
 ghost use Rattle.spk_run.specs.Troubles.{write_stop, stop_of};
 
 use crate::answer::{Cause, Ending};
@@ -11,7 +11,7 @@ use crate::messages::refusal_line;
 use crate::options::Options;
 use crate::trouble::{Trouble, WriteTrouble};
 use spk_world::World;
-use std::alloc::{AllocError, Global};
+use std::alloc::Global;
 
 /// Writes a text to the screen.
 pub fn say<W: World>(world: &mut W, text: &[u8]) -> Result<(), WriteTrouble>
@@ -61,28 +61,6 @@ pub fn start_log<W: World>(world: &mut W, options: &Options) -> Result<(), Write
         Ok(()) => Ok(()),
         Err(_) => Err(WriteTrouble::File),
     }
-}
-
-/// Echoes a command to the log, as it stands in the script.
-pub fn echo<W: World>(
-    alloc: Global,
-    world: &mut W,
-    options: &Options,
-    line: &[u8],
-) -> Result<(), Trouble>
-    ensures { Wrote (stop_of options.now) (W.told world.old) (W.told world.new) (W.faults world.old) (W.faults world.new) (echoed options.now.log line.now) result }
-{
-    let text = with_line_feed(alloc, line)?;
-    Ok(log(world, options, &text)?)
-}
-
-fn with_line_feed(alloc: Global, line: &[u8]) -> Result<Vec<u8>, AllocError>
-    ensures { IfOk result (λ text. text.items ≡ line.now ++ (10 ∷ [])) }
-{
-    let mut text = Vec::with_capacity(alloc, line.len().saturating_add(1))?;
-    text.extend_from_slice(line)?;
-    text.push(b'\n')?;
-    Ok(text)
 }
 
 /// Refuses the script: the line that says so goes to the screen, and then to the log.

@@ -4,7 +4,7 @@ ghost use Rattle.std.specs.Prelude.{◌≡◌, ◌++◌, ◌+◌, ◌*◌, ◌/�
 ghost use Rattle.std.specs.List.{range_with_len};
 ghost use Rattle.spk_world.specs.Effects.{Wrote};
 ghost use Rattle.spk_num.specs.Decimal.{ticks_text};
-ghost use Rattle.spk_run.specs.Plain.{statistics_text, cycle_end, cycles_of, cycle_ends, reaches, cycle_told, cycles_told, ran};
+ghost use Rattle.spk_run.specs.Commands.{statistics_text, cycle_end, cycles_of, cycle_ends, reaches, cycle_told, cycles_told, ran};
 ghost use Rattle.spk_run.specs.Turn.{propensities_of};
 ghost use Rattle.spk_run.specs.Troubles.{write_stop, stop_of};
 

@@ -2,7 +2,7 @@
 
 ghost use Rattle.std.specs.Prelude.{◌≡◌, ◌+◌, ◌-◌, ◌^◌, ◌<◌, ◌≤◌, IfOk};
 ghost use Rattle.spk_world.specs.Effects.{Wrote};
-ghost use Rattle.spk_run.specs.Plain.{new_session, sites_in, with_box, set_by, counted, obeyed_by};
+ghost use Rattle.spk_run.specs.Commands.{new_session, sites_in, with_box, set_by, counted, obeyed_by};
 ghost use Rattle.spk_run.specs.Troubles.{stop_of};
 
 use crate::answer::Ending;

@@ -1,46 +1,66 @@
 //! The top call: the command line, the script and all that they make the simulator write.
 
-ghost use Rattle.std.specs.Prelude.{◌≡◌, ◌≤◌, ℕ, true, map, length, IfOk, IfNone};
-ghost use Rattle.std.specs.List.{list_all};
+ghost use Rattle.std.specs.Prelude.{◌≡◌, ◌≤◌, ℕ, List, Result, Some, map, length, IfOk, IfNone};
 ghost use Rattle.std.specs.String.{string_bytes};
+ghost use Rattle.spk_script.specs.Lines.{LogicalLine, IsFault};
 ghost use Rattle.spk_world.specs.Causes.{Later};
 ghost use Rattle.spk_world.specs.Effects.{Wrote};
 ghost use Rattle.spk_run.specs.Endings.{Simulated, AnswerCause, IsUsageAt, IsOfContent, EndingFileCause, AnswerFileCause};
 ghost use Rattle.spk_run.specs.Options.{options_of};
-ghost use Rattle.spk_run.specs.Plain.{script_obeyed, file_obeyed, options_obeyed, plain_words, plain_alone};
+ghost use Rattle.spk_run.specs.Plain.{script_read, script_obeyed, file_obeyed, options_obeyed, plain_words, plain_alone};
 ghost use Rattle.spk_run.specs.Troubles.{stop_of, log_target, answer_by, IsNamed};
 
 use crate::answer::{Answer, Cause, Ending, Target};
-use crate::lines::obey_lines;
 use crate::messages::usage_line;
 use crate::options::{Options, Usage, options_of};
 use crate::output::{refuse, say, start_log};
-use crate::script::all_allowed;
+use crate::script_run::run_script;
 use crate::trouble::{Trouble, WriteTrouble};
 use spk_num::text::Text;
+use spk_script::{Script, ScriptFault};
 use spk_world::{LoadFault, World};
 use std::alloc::Global;
 
 /// The longest script, in bytes.
 const LONGEST_SCRIPT: u64 = 1_048_576;
 
+/// Refuses bytes that are no script. They aren't too many.
+fn refuse_script<W: World>(
+    alloc: Global,
+    world: &mut W,
+    options: &Options,
+    fault: ScriptFault,
+) -> Result<Ending, Trouble>
+    requires { fault ≡ ScriptFault.TooLong → ⊥ }
+    ensures wrote { (plain : Result (List LogicalLine) ScriptFault) → IsFault plain fault →
+        Wrote (stop_of options.now) (W.told world.old) (W.told world.new) (W.faults world.old) (W.faults world.new) (script_read options.now plain) result }
+    ensures content { IfOk result IsOfContent }
+{
+    match fault {
+        ScriptFault::TooLong => unreachable!(),
+        ScriptFault::NotAscii(place) => refuse(alloc, world, options, 0, Cause::NotAscii(place)),
+        ScriptFault::TooManyLines => refuse(alloc, world, options, 0, Cause::TooManyLines),
+        ScriptFault::OpenQuote(number) => refuse(alloc, world, options, number, Cause::OpenQuote),
+        ScriptFault::Memory => Err(Trouble::Memory),
+    }
+}
+
 /// Obeys a script that was loaded.
 fn obey_script<W: World>(
     alloc: Global,
     world: &mut W,
     options: &Options,
-    script: &[u8],
+    bytes: &[u8],
 ) -> Result<Ending, Trouble>
-    requires { length script.now ≤ 1048576 }
+    requires { length bytes.now ≤ 1048576 }
     ensures wrote { Wrote (stop_of options.now) (W.told world.old) (W.told world.new) (W.faults world.old) (W.faults world.new)
-        (script_obeyed options.now (Some script.now)) result }
+        (script_obeyed options.now (Some bytes.now)) result }
     ensures content { IfOk result IsOfContent }
 {
-    if !all_allowed(script) {
-        let nothing = Text::copy(alloc, "")?;
-        return refuse(alloc, world, options, 0, Cause::NotBuilt(nothing));
+    match Script::read(alloc, bytes) {
+        Ok(script) => run_script(alloc, world, options, script),
+        Err(fault) => refuse_script(alloc, world, options, fault),
     }
-    obey_lines(alloc, world, options, script)
 }
 
 /// Loads the script, and obeys it.

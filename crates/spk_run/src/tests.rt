@@ -2,6 +2,8 @@
 
 mod example;
 mod faults;
+mod language;
+mod language_vectors;
 mod plain_rule;
 mod refusals;
 mod vectors;

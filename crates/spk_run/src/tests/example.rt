@@ -12,15 +12,24 @@ fn obeys_the_example(rt: HostRuntime) -> Result<(), TestFailed> {
     ended.expect(&rt, 0, EXAMPLE_SCREEN, Some(log.as_str()), "the example");
     let ended = unlogged(alloc, script.as_bytes())?;
     ended.expect(&rt, 0, EXAMPLE_SCREEN, None, "no log");
+    Ok(())
+}
 
+#[test]
+fn runs_for_no_time(rt: HostRuntime) -> Result<(), TestFailed> {
+    let alloc = rt.alloc();
     let screen = "Time Naccept Nreject Nsweeps\n0.000000000 0 0 0\n";
     let mut script = front_of_example(alloc, 10)?;
     script.push_str("run 0\n")?;
     let log = joined(alloc, script.as_str(), screen)?;
     let ended = logged(alloc, script.as_bytes())?;
     ended.expect(&rt, 0, screen, Some(log.as_str()), "run 0");
+    Ok(())
+}
 
-    let ended = logged(alloc, b"")?;
+#[test]
+fn obeys_an_empty_script(rt: HostRuntime) -> Result<(), TestFailed> {
+    let ended = logged(rt.alloc(), b"")?;
     ended.expect(&rt, 0, "", Some(""), "an empty script");
     Ok(())
 }

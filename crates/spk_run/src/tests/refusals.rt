@@ -43,11 +43,9 @@ const TAKEN: [(usize, &str); 19] = [
 ];
 
 /// Lines that are refused: which line of the example each takes the place of, and what isn't built.
-const REFUSED: [(usize, &str, &str); 75] = [
-    (1, "# comment &", "&"),
-    (1, "seed 1 &", "&"),
-    (1, "seed 1 # & \t\r&\t ", "&"),
-    (1, "&", "&"),
+const REFUSED: [(usize, &str, &str); 73] = [
+    (1, "print", "print"),
+    (1, "print 1 2", "print"),
     (1, "seed 1 & 2", "seed"),
     (1, "seed 0", "seed"),
     (1, "seed 2147483647", "seed"),
@@ -149,7 +147,7 @@ fn refuses_lines(rt: HostRuntime) -> Result<(), TestFailed> {
 }
 
 /// Scripts that are refused: the line at which each is, what isn't built, and what is echoed up to there.
-const COUNTED: [(&str, usize, &str, &str); 8] = [
+const COUNTED: [(&str, usize, &str, &str); 6] = [
     ("seed", 1, "seed", "seed\n"),
     ("\n\n\nseed", 4, "seed", "seed\n"),
     ("\r\n \t\r\nfoo#bar\r\n", 3, "foo", "foo#bar\r\n"),
@@ -166,8 +164,6 @@ const COUNTED: [(&str, usize, &str, &str); 8] = [
         "run",
         "seed\t1\r\napp_style ising # run 1\n\trun 1\r\n",
     ),
-    ("\n \r# note & \r\nseed 1\n", 2, "&", " \r# note & \r\n"),
-    ("seed 1\n\n\t&\n", 3, "&", "seed 1\n\t&\n"),
 ];
 
 #[test]
@@ -199,29 +195,68 @@ fn counts_lines(rt: HostRuntime) -> Result<(), TestFailed> {
     Ok(())
 }
 
-/// Bytes of which a script may have none refuse it as a whole, and so does one byte too many.
+/// A byte that no script may have refuses it as a whole.
 #[test]
-fn refuses_whole_scripts(rt: HostRuntime) -> Result<(), TestFailed> {
+fn refuses_bytes(rt: HostRuntime) -> Result<(), TestFailed> {
     let alloc = rt.alloc();
-    let screen = "ERROR: line 0: (206) not built yet \n";
     for byte in [0x00, 0x08, 0x0b, 0x0c, 0x1f, 0x7f, 0x80, 0xff] {
-        for front in ["", "seed 1\n# ", "seed 1\n\n"] {
+        for front in ["", "seed 1\n# ", "seed 1\n\n\"open"] {
             let mut script = Vec::from_slice(alloc, front.as_bytes())?;
             script.push(byte)?;
             script.extend_from_slice(b"\nseed 1\n")?;
+            let place = front.len();
+            let screen = format!(in alloc; "ERROR: line 0: (102) byte {place} is not allowed\n")?;
             let ended = logged(alloc, &script)?;
-            ended.expect(&rt, 1, screen, Some(screen), front);
+            ended.expect(&rt, 1, screen.as_str(), Some(screen.as_str()), front);
         }
     }
+    Ok(())
+}
 
-    let screen = "ERROR: line 0: (101) script over 1048576 bytes\n";
-    for byte in [b' ', b'\n'] {
-        let mut script = vec![in alloc; byte; 1_048_576]?;
+/// So do one byte too many and one line too many.
+#[test]
+fn refuses_long_scripts(rt: HostRuntime) -> Result<(), TestFailed> {
+    let alloc = rt.alloc();
+    let cases = [
+        (
+            b' ',
+            1_048_576,
+            "ERROR: line 0: (101) script over 1048576 bytes\n",
+        ),
+        (
+            b'\n',
+            100_000,
+            "ERROR: line 0: (104) more than 100000 lines\n",
+        ),
+    ];
+    for (byte, most, screen) in cases {
+        let mut script = vec![in alloc; byte; most]?;
         let ended = logged(alloc, &script)?;
-        ended.expect(&rt, 0, "", Some(""), "1048576 bytes");
+        ended.expect(&rt, 0, "", Some(""), "the longest");
         script.push(byte)?;
         let ended = logged(alloc, &script)?;
-        ended.expect(&rt, 1, screen, Some(screen), "1048577 bytes");
+        ended.expect(&rt, 1, screen, Some(screen), "one more");
+    }
+    Ok(())
+}
+
+/// A quote that isn't closed refuses it at its line, before any line is obeyed.
+#[test]
+fn refuses_open_quotes(rt: HostRuntime) -> Result<(), TestFailed> {
+    let cases: [(&[u8], &str); 3] = [
+        (b"print \"a\n", "ERROR: line 1: (103) quote is not closed\n"),
+        (
+            b"seed 1\nprint a &\n \"b\n\"c",
+            "ERROR: line 2: (103) quote is not closed\n",
+        ),
+        (
+            b"foo\n# \"\n\"",
+            "ERROR: line 3: (103) quote is not closed\n",
+        ),
+    ];
+    for (script, screen) in &cases {
+        let ended = logged(rt.alloc(), script)?;
+        ended.expect(&rt, 1, screen, Some(screen), screen);
     }
     Ok(())
 }

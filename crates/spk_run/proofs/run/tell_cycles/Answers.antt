@@ -1,7 +1,7 @@
 use Rattle.std.proofs.Common.{◌≡◌, ◌-◌, arith}
 use Rattle.spk_world.proofs.Loops.{goes_behind, goes_no_further, goes_to_end}
 use Rattle.spk_run.specs.Turn.{turn_of}
-use Rattle.spk_run.specs.Plain.{cycle_end, cycles_of}
+use Rattle.spk_run.specs.Commands.{cycle_end, cycles_of}
 use Rattle.spk_run.proofs.Cycles.{next_cycle, no_cycle, all_ends}
 use Rattle.spk_run.proofs.run.tell_cycles.Goals as goal
 

@@ -1,7 +1,7 @@
 use Rattle.std.proofs.Common.{◌≡◌, ◌≤◌, vec_capacity}
 use Rattle.spk_world.proofs.Loops.{GoesOn}
 use Rattle.spk_run.specs.Turn.{propensities_of}
-use Rattle.spk_run.specs.Plain.{cycles_told, cycles_of}
+use Rattle.spk_run.specs.Commands.{cycles_told, cycles_of}
 use Rattle.spk_run.specs.Troubles.{write_stop}
 use Rattle.spk_run.proofs.Cycles.{ends_from}
 use Rattle.spk_run.proofs.run.tell_cycles.Given as goal

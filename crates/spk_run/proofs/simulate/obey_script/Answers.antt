@@ -1,5 +1,8 @@
-use Rattle.spk_run.proofs.Steps.{wanting}
+use Rattle.spk_run.proofs.Loading.{not_too_long}
 use Rattle.spk_run.proofs.simulate.obey_script.Goals as goal
 
-pub returns-in_err-nothing-clause-wrote : goal.returns-in_err-nothing-clause-wrote
-returns-in_err-nothing-clause-wrote g c = wanting _ c.from_residual.ensures.1
+pub refuse_script-requires : goal.refuse_script-requires
+refuse_script-requires g c = not_too_long c.args.bytes.now _ c.requires c.in-Err.ensures.fault
+
+pub returns-in-Err-clause-wrote : goal.returns-in-Err-clause-wrote
+returns-in-Err-clause-wrote g c = c.refuse_script.ensures.wrote _ c.in-Err.ensures.fault
