@@ -4,11 +4,13 @@ use Rattle.std.proofs.lemmas.Bool.{cases_lt}
 use Rattle.std.proofs.lemmas.Bool.Decides.{nat_tests}
 use Rattle.std.proofs.lemmas.List.{drop_more, drop_all}
 use Rattle.std.proofs.lemmas.List.Recursion.{found_at}
-use Rattle.std.proofs.lemmas.Option.{slice_get-get_or}
-use Rattle.std.specs.Prelude.{nat_lt, Ok}
+use Rattle.std.proofs.lemmas.Option.{slice_get-get_or, slice_get_within, get_or_from_slice_get}
+use Rattle.std.proofs.lemmas.List.{get_or_default}
+use Rattle.std.specs.Prelude.{nat_lt, Ok, slice_get, zero, suc}
 use Rattle.std.specs.List.{AllPairs}
 use Rattle.spk_script.specs.declared.machine.Arrival.{Arrival}
 use Rattle.spk_script.specs.declared.machine.Arrival.TheVariants.{At, End}
+use Rattle.spk_script.specs.CommandPlaces.{IsCommandAt, IsFirstFrom, IsTableUpTo}
 use Rattle.spk_script.specs.Lines.{LogicalLine, is_command, line_numbered}
 use Rattle.spk_script.specs.Faults.{Judged}
 use Rattle.spk_script.specs.Machine.{State, Arrived, arrive, arrive_at, arrive_where, arrive_ahead, line_at}
@@ -117,3 +119,57 @@ ahead_counts state place (line ∷ rest) =
 
 pub arrived_counts : (lines : List LogicalLine) (state now : State) (answer : Judged Arrival) → arrive lines state ≡ arrived_to now answer → CountsAt state now answer
 arrived_counts lines state now answer is = subst (λ (a : Arrived). CountsAt state a.state a.answer) is (ahead_counts state state.place (drop state.place lines))
+
+-- the first command from a place on, by the lines between
+walk : (state : State) (lines : List LogicalLine) (n place at : ℕ) (line : LogicalLine) → IsFirstFrom lines place at → at ≡ place + n →
+    arrive_ahead state place (drop place lines) ≡ arrive_at state at (get_or lines at line).number
+walk state lines zero place at line first far =
+    let here : place ≡ at = omega (arith, far) in
+    let same : get_or lines at line ≡ get_or lines at (get_or lines at line) = get_or_default lines at line (get_or lines at line) first.within in
+    rw here (ahead_command state lines at (get_or lines at line) same first.within (first.is line))
+walk state lines (suc n) place at line first far =
+    let less : place < at = omega (arith, far) in
+    let within : place < length lines = omega (arith, less, first.within) in
+    let same : get_or lines place line ≡ get_or lines place (get_or lines place line) = get_or_default lines place line (get_or lines place line) within in
+    let next : IsFirstFrom lines (place + 1) at = record {
+      behind = omega (arith, less);
+      within = first.within;
+      is = first.is;
+      between = λ k from before. first.between k (omega (arith, from)) before;
+    } in
+    ahead_other state lines place (get_or lines place line) same within (first.between place (omega arith) less line)
+    ∙ walk state lines n (place + 1) at line next (omega (arith, far))
+
+pub ahead_first_from : (state : State) (lines : List LogicalLine) (place at : ℕ) (line : LogicalLine) → IsFirstFrom lines place at →
+    arrive_ahead state place (drop place lines) ≡ arrive_at state at (get_or lines at line).number
+ahead_first_from state lines place at line first = walk state lines (at - place) place at line first (omega (arith, first.behind))
+
+-- no command from a place on
+walk_on : (state : State) (lines : List LogicalLine) (n place : ℕ) (line : LogicalLine) → length lines ≡ place + n →
+    ((k : ℕ) → place ≤ k → k < length lines → IsCommandAt lines k false) → arrive_ahead state place (drop place lines) ≡ record { answer = Ok End; state = state }
+walk_on state lines zero place line far none = ahead_end state lines place (omega (arith, far))
+walk_on state lines (suc n) place line far none =
+    let within : place < length lines = omega (arith, far) in
+    let same : get_or lines place line ≡ get_or lines place (get_or lines place line) = get_or_default lines place line (get_or lines place line) within in
+    ahead_other state lines place (get_or lines place line) same within (none place (omega arith) within line)
+    ∙ walk_on state lines n (place + 1) line (omega (arith, far)) (λ k from before. none k (omega (arith, from)) before)
+
+pub ahead_nothing : (state : State) (lines : List LogicalLine) (places : List ℕ) (place : ℕ) → IsTableUpTo lines places (length lines) → slice_get places place ≡ None →
+    arrive_ahead state place (drop place lines) ≡ record { answer = Ok End; state = state }
+ahead_nothing state lines places place table none =
+    let line : LogicalLine = record { number = 0; raw = []; words = [] } in
+    elim (cases_lt place (length places)) [
+      | inl within ↦ absurd (cc (none, slice_get-get_or places place 0 within))
+      | inr past ↦ elim (cases_lt place (length lines)) [
+        | inl less ↦ walk_on state lines (length lines - place) place line (omega (arith, less)) (λ k from before. table.none k (omega (arith, past, from)) before)
+        | inr end ↦ ahead_end state lines place end
+      ]
+    ]
+
+-- the place that a table has is that of the first command
+pub place_in_table : (lines : List LogicalLine) (places : List ℕ) (place at : ℕ) → IsTableUpTo lines places (length lines) → slice_get places place ≡ Some at →
+    IsFirstFrom lines place at
+place_in_table lines places place at table found =
+    let within : place < length places = slice_get_within places place at found in
+    let is : get_or places place 0 ≡ at = get_or_from_slice_get places place at 0 found in
+    subst (IsFirstFrom lines place) is (table.first place within)

@@ -62,3 +62,8 @@ pub made_handed : {A : Type 0} (plain : Judged A) (next : A → Judged State) (f
     Answers plain (Err fault) → IsErrAnd result (λ f. f ≡ fault) → Answers (plain >>= next) (made_to state result)
 made_handed plain next fault state (Ok done) failed handed = absurd handed
 made_handed plain next fault state (Err f) failed handed = subst (λ e. Answers (plain >>= next) (Err e)) (sym handed) (answers_failed plain next fault failed)
+
+-- what functions that judge something come to, and those that make a state
+pub ruleset judged = (answers_value, answers_fault, answers_wanting)
+
+pub ruleset made = (answers_value, answers_fault, made_wanting, made_handed, answers_then)

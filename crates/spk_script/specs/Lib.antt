@@ -1,9 +1,11 @@
+pub mod CommandPlaces
 pub mod Cuts
 pub mod Evaluation
 pub mod Faults
 pub mod Forms
 pub mod Formulas
 pub mod Frames
+pub mod LabelledScripts
 pub mod Lines
 pub mod Machine
 pub mod Parts

@@ -5,7 +5,7 @@ use Rattle.spk_script.specs.declared.machine.Arrival.{Arrival}
 use Rattle.spk_script.specs.declared.machine.Arrival.TheVariants.{At, End}
 use Rattle.spk_script.specs.declared.machine.Step.{Step}
 use Rattle.spk_script.specs.declared.machine.Step.TheVariants.{Own}
-use Rattle.spk_script.specs.declared.state.Command.{Command}
+use Rattle.spk_script.specs.declared.labelled_script.Command.{Command}
 use Rattle.spk_script.specs.declared.state.MachineState.{MachineState}
 use Rattle.spk_script.specs.Lines.{LogicalLine, line_numbered}
 use Rattle.spk_script.specs.Faults.{Judged, Answers}

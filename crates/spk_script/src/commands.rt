@@ -5,7 +5,9 @@ ghost use Rattle.std.specs.List.{All, list_all};
 ghost use Rattle.spk_num.specs.Whole.{whole_within};
 ghost use Rattle.spk_script.specs.Faults.{Answers};
 ghost use Rattle.spk_script.specs.Formulas.{is_name_byte};
-ghost use Rattle.spk_script.specs.Machine.{is_name, name_judged, none_left, looped, with_new_variable, with_variable, loop_made, string_made, equal_made, variable_styled, variable_named, variable_made, stepped_by, step_named, stepped, labelled, jumped_to, jumped};
+ghost use Rattle.spk_script.specs.Machine.{is_name, name_judged, none_left, with_new_variable, with_variable};
+ghost use Rattle.spk_script.specs.Machine.{looped, loop_made, string_made, equal_made, variable_styled, variable_named, variable_made};
+ghost use Rattle.spk_script.specs.Machine.{stepped_by, step_named, stepped, labelled, jumped_to, jumped};
 ghost use Rattle.spk_script.specs.Standing.{state_of, made_to};
 
 use crate::fault::LineFault;
@@ -44,7 +46,7 @@ fn is_name(word: &[u8]) -> bool
 }
 
 /// Refuses a word that is no name.
-#[tactic(auto, using(crate::proofs::FaultLaws::answers_value, crate::proofs::FaultLaws::answers_fault, crate::proofs::FaultLaws::answers_wanting))]
+#[tactic(auto, using(crate::proofs::FaultLaws::judged))]
 fn judge_name(alloc: Global, word: &Text) -> Result<(), LineFault>
     ensures { Answers (name_judged word.now) result }
 {
@@ -55,7 +57,7 @@ fn judge_name(alloc: Global, word: &Text) -> Result<(), LineFault>
 }
 
 /// Refuses words behind the one that a style takes.
-#[tactic(auto, using(crate::proofs::FaultLaws::answers_value, crate::proofs::FaultLaws::answers_fault, crate::proofs::FaultLaws::answers_wanting))]
+#[tactic(auto, using(crate::proofs::FaultLaws::judged))]
 fn judge_rest(rest: &[Text]) -> Result<(), LineFault>
     ensures { Answers (none_left rest.now) result }
 {
@@ -104,7 +106,7 @@ impl MachineState {
         self.set(alloc, name, variable)
     }
 
-    #[tactic(auto, using(crate::proofs::FaultLaws::answers_value, crate::proofs::FaultLaws::answers_fault, crate::proofs::FaultLaws::made_wanting, crate::proofs::FaultLaws::made_handed, crate::proofs::FaultLaws::answers_then))]
+    #[tactic(auto, using(crate::proofs::FaultLaws::made))]
     fn make_index(
         &mut self,
         alloc: Global,
@@ -122,7 +124,7 @@ impl MachineState {
         Ok(())
     }
 
-    #[tactic(auto, using(crate::proofs::FaultLaws::answers_value, crate::proofs::FaultLaws::answers_fault, crate::proofs::FaultLaws::made_wanting, crate::proofs::FaultLaws::made_handed, crate::proofs::FaultLaws::answers_then))]
+    #[tactic(auto, using(crate::proofs::FaultLaws::made))]
     fn make_loop(
         &mut self,
         alloc: Global,
@@ -138,7 +140,7 @@ impl MachineState {
         self.make_turns(alloc, name, turns)
     }
 
-    #[tactic(auto, using(crate::proofs::FaultLaws::answers_value, crate::proofs::FaultLaws::answers_fault, crate::proofs::FaultLaws::made_wanting, crate::proofs::FaultLaws::made_handed, crate::proofs::FaultLaws::answers_then))]
+    #[tactic(auto, using(crate::proofs::FaultLaws::made))]
     fn make_turns(&mut self, alloc: Global, name: &Text, turns: &Text) -> Result<(), LineFault>
         ensures answer { Answers (looped (state_of self.old) name.now (whole_within 1 1000000 turns.now)) (made_to (state_of self.new) result) }
         ensures same { OnErr result (state_of self.new ≡ state_of self.old) }
@@ -158,7 +160,7 @@ impl MachineState {
         Ok(())
     }
 
-    #[tactic(auto, using(crate::proofs::FaultLaws::answers_value, crate::proofs::FaultLaws::answers_fault, crate::proofs::FaultLaws::made_wanting, crate::proofs::FaultLaws::made_handed, crate::proofs::FaultLaws::answers_then))]
+    #[tactic(auto, using(crate::proofs::FaultLaws::made))]
     fn make_string(
         &mut self,
         alloc: Global,
@@ -176,7 +178,7 @@ impl MachineState {
         Ok(())
     }
 
-    #[tactic(auto, using(crate::proofs::FaultLaws::answers_value, crate::proofs::FaultLaws::answers_fault, crate::proofs::FaultLaws::made_wanting, crate::proofs::FaultLaws::made_handed, crate::proofs::FaultLaws::answers_then))]
+    #[tactic(auto, using(crate::proofs::FaultLaws::made))]
     fn make_equal(
         &mut self,
         alloc: Global,
@@ -196,7 +198,7 @@ impl MachineState {
     }
 
     /// Makes a variable of a style, by the value that stands behind it and those behind that one.
-    #[tactic(auto, using(crate::proofs::FaultLaws::answers_value, crate::proofs::FaultLaws::answers_fault, crate::proofs::FaultLaws::made_wanting, crate::proofs::FaultLaws::made_handed, crate::proofs::FaultLaws::answers_then))]
+    #[tactic(auto, using(crate::proofs::FaultLaws::made))]
     fn make_styled(
         &mut self,
         alloc: Global,
@@ -220,7 +222,7 @@ impl MachineState {
     }
 
     /// Obeys `variable` with these words behind it.
-    #[tactic(auto, using(crate::proofs::FaultLaws::answers_value, crate::proofs::FaultLaws::answers_fault, crate::proofs::FaultLaws::made_wanting, crate::proofs::FaultLaws::made_handed, crate::proofs::FaultLaws::answers_then))]
+    #[tactic(auto, using(crate::proofs::FaultLaws::made))]
     pub fn make_variable(&mut self, alloc: Global, words: &[Text]) -> Result<(), LineFault>
         requires { All (λ word. length word ≤ 4096) words.now }
         ensures answer { Answers (variable_made (state_of self.old) words.now) (made_to (state_of self.new) result) }
@@ -234,7 +236,7 @@ impl MachineState {
     }
 
     /// Makes a variable whose name, style and value are these words.
-    #[tactic(auto, using(crate::proofs::FaultLaws::answers_value, crate::proofs::FaultLaws::answers_fault, crate::proofs::FaultLaws::made_wanting, crate::proofs::FaultLaws::made_handed, crate::proofs::FaultLaws::answers_then))]
+    #[tactic(auto, using(crate::proofs::FaultLaws::made))]
     fn make_named(
         &mut self,
         alloc: Global,
@@ -253,7 +255,7 @@ impl MachineState {
     }
 
     /// Goes to the next value of a variable. Behind its last one the variable is deleted, and the next jump is skipped.
-    #[tactic(auto, using(crate::proofs::FaultLaws::answers_value, crate::proofs::FaultLaws::answers_fault, crate::proofs::FaultLaws::made_wanting, crate::proofs::FaultLaws::made_handed, crate::proofs::FaultLaws::answers_then))]
+    #[tactic(auto, using(crate::proofs::FaultLaws::made))]
     fn step(&mut self, alloc: Global, name: &Text) -> Result<(), LineFault>
         ensures answer { Answers (stepped_by (state_of self.old) name.now ((state_of self.old).variables name.now)) (made_to (state_of self.new) result) }
         ensures same { OnErr result (state_of self.new ≡ state_of self.old) }
@@ -272,7 +274,7 @@ impl MachineState {
     }
 
     /// Obeys `next` with these words behind it.
-    #[tactic(auto, using(crate::proofs::FaultLaws::answers_value, crate::proofs::FaultLaws::answers_fault, crate::proofs::FaultLaws::made_wanting, crate::proofs::FaultLaws::made_handed, crate::proofs::FaultLaws::answers_then))]
+    #[tactic(auto, using(crate::proofs::FaultLaws::made))]
     pub fn step_variable(&mut self, alloc: Global, words: &[Text]) -> Result<(), LineFault>
         ensures answer { Answers (stepped (state_of self.old) words.now) (made_to (state_of self.new) result) }
         ensures same { OnErr result (state_of self.new ≡ state_of self.old) }
@@ -285,7 +287,7 @@ impl MachineState {
     }
 
     /// Goes to the next value of the variable that a word names.
-    #[tactic(auto, using(crate::proofs::FaultLaws::answers_value, crate::proofs::FaultLaws::answers_fault, crate::proofs::FaultLaws::made_wanting, crate::proofs::FaultLaws::made_handed, crate::proofs::FaultLaws::answers_then))]
+    #[tactic(auto, using(crate::proofs::FaultLaws::made))]
     fn step_named(&mut self, alloc: Global, name: &Text) -> Result<(), LineFault>
         ensures answer { Answers (step_named (state_of self.old) name.now) (made_to (state_of self.new) result) }
         ensures same { OnErr result (state_of self.new ≡ state_of self.old) }
@@ -296,7 +298,7 @@ impl MachineState {
     }
 
     /// Obeys `label` with these words behind it.
-    #[tactic(auto, using(crate::proofs::FaultLaws::answers_value, crate::proofs::FaultLaws::answers_fault, crate::proofs::FaultLaws::made_wanting, crate::proofs::FaultLaws::made_handed, crate::proofs::FaultLaws::answers_then))]
+    #[tactic(auto, using(crate::proofs::FaultLaws::made))]
     pub fn pass_label(&mut self, words: &[Text]) -> Result<(), LineFault>
         ensures answer { Answers (labelled (state_of self.old) words.now) (made_to (state_of self.new) result) }
         ensures same { state_of self.new ≡ state_of self.old }
@@ -309,7 +311,7 @@ impl MachineState {
     }
 
     /// Goes to a label of the script, unless this jump is skipped.
-    #[tactic(auto, using(crate::proofs::FaultLaws::answers_value, crate::proofs::FaultLaws::answers_fault, crate::proofs::FaultLaws::made_wanting, crate::proofs::FaultLaws::made_handed, crate::proofs::FaultLaws::answers_then))]
+    #[tactic(auto, using(crate::proofs::FaultLaws::made))]
     fn jump_to(
         &mut self,
         alloc: Global,
@@ -336,7 +338,7 @@ impl MachineState {
     }
 
     /// Obeys `jump` with these words behind it.
-    #[tactic(auto, using(crate::proofs::FaultLaws::answers_value, crate::proofs::FaultLaws::answers_fault, crate::proofs::FaultLaws::made_wanting, crate::proofs::FaultLaws::made_handed, crate::proofs::FaultLaws::answers_then))]
+    #[tactic(auto, using(crate::proofs::FaultLaws::made))]
     pub fn jump(
         &mut self,
         alloc: Global,

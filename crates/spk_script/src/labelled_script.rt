@@ -1,18 +1,30 @@
-//! A script whose labels are found without going through its lines.
+//! A script whose labels and commands are found without going through its lines.
 
-ghost use Rattle.std.specs.Prelude.{◌≡◌, ◌<◌, ◌+◌, ◌^◌, length, IfSome, IfOk};
-ghost use Rattle.spk_script.specs.Machine.{label_place};
+ghost use Rattle.std.specs.Prelude.{◌≡◌, ◌<◌, ◌+◌, ◌^◌, length, get_or, drop, IfSome, IfOk};
+ghost use Rattle.spk_script.specs.Lines.{LogicalLine};
+ghost use Rattle.spk_script.specs.Machine.{State, arrive_ahead, label_place};
+ghost use Rattle.spk_script.specs.Scripts.{IsScript};
+ghost use Rattle.spk_script.specs.Standing.{arrive_found};
 
+use crate::command_table::CommandTable;
 use crate::labels::Labels;
 use crate::script::Script;
 use std::alloc::{AllocError, Global};
 use std::marker::Model;
 
-/// A script with a table of its labels.
+/// A line with a word: its place among the lines of a script, counted from 0, and its number.
+#[derive(Clone, Copy)]
+pub struct Command {
+    pub place: usize,
+    pub number: u32,
+}
+
+/// A script with tables of its labels and its commands.
 #[derive(Debug, Drop)]
 pub struct LabelledScript {
     script: Script,
     labels: Labels,
+    commands: CommandTable,
 }
 
 impl Model for LabelledScript {
@@ -21,21 +33,25 @@ impl Model for LabelledScript {
 
     ghost Value = { List LogicalLine };
 
-    ghost use Rattle.spk_script.specs.Machine.{label_place};
-    ghost use Rattle.spk_script.specs.Tables.{labels_of};
+    ghost use Rattle.spk_script.specs.LabelledScripts.{IsLabelled};
 
     ghost view = { λ s. s.script };
 
-    ghost invariant = { λ s. (label : List ℕ) → labels_of s.labels.places label ≡ label_place s.script label };
+    ghost invariant = { λ s. IsLabelled s.script s.labels s.commands };
 }
 
 impl LabelledScript {
-    /// Makes the table of a script's labels.
+    /// Makes the tables of a script.
     pub fn new(alloc: Global, script: Script) -> Result<LabelledScript, AllocError>
         ensures { IfOk result (λ labelled. labelled ≡ script) }
     {
         let labels = Labels::of(alloc, script.lines())?;
-        Ok(LabelledScript { script, labels })
+        let commands = CommandTable::of(alloc, script.lines())?;
+        Ok(LabelledScript {
+            script,
+            labels,
+            commands,
+        })
     }
 
     /// The script.
@@ -55,6 +71,27 @@ impl LabelledScript {
         let lines = self.script.lines().len();
         prove!(place < lines);
         Some(place)
+    }
+
+    /// The number of the line at a place.
+    fn number_at(&self, place: usize) -> u32
+        requires { place < length self.now }
+        ensures { (line : LogicalLine) → result ≡ (get_or self.now place line).number }
+    {
+        self.script.lines()[place].number()
+    }
+
+    /// The first command from a place on.
+    pub fn command_from(&self, place: usize) -> Option<Command>
+        ensures found { (state : State) → arrive_ahead state place (drop place self.now) ≡ arrive_found state result }
+        ensures fits { IfSome result (λ command. command.place + 1 < 2 ^ 64) }
+        ensures script { IsScript self.now }
+    {
+        let lines = self.script.lines().len();
+        let place = self.commands.first_from(place)?;
+        prove!(place < lines);
+        let number = self.number_at(place);
+        Some(Command { place, number })
     }
 }
 

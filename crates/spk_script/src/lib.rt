@@ -2,6 +2,7 @@
 #![tactic(auto)]
 
 mod bytes;
+mod command_table;
 mod commands;
 mod fault;
 mod formula;

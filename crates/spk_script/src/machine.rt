@@ -80,7 +80,7 @@ impl Machine {
         ensures stands { StandsAt self.new.script (state_of self.new.state) result }
         ensures script { self.new.script ≡ self.old.script }
     {
-        self.state.arrive(self.script.script().lines())
+        self.state.arrive(&self.script)
     }
 
     /// Reads the line at which the machine stands: names in it are replaced, and a command of the machine is obeyed.

@@ -1,12 +1,13 @@
 //! What the machine keeps: where it stands, its variables, and what it counts.
 
-ghost use Rattle.std.specs.Prelude.{◌≡◌, ◌<◌, length, drop, IfSome};
-ghost use Rattle.spk_script.specs.Machine.{State, new_state, arrive, arrive_ahead};
-ghost use Rattle.spk_script.specs.Standing.{state_of, arrive_found, arrived_to};
+ghost use Rattle.std.specs.Prelude.{◌≡◌};
+ghost use Rattle.spk_script.specs.Machine.{new_state, arrive};
+ghost use Rattle.spk_script.specs.Scripts.{IsScript};
+ghost use Rattle.spk_script.specs.Standing.{state_of, arrived_to};
 
 use crate::fault::LineFault;
+use crate::labelled_script::LabelledScript;
 use crate::machine::Arrival;
-use crate::script::Line;
 use crate::variable_table::VariableTable;
 use std::alloc::Global;
 
@@ -25,30 +26,6 @@ pub struct MachineState {
     pub arrivals: u32,
 }
 
-/// A line with a word: its place among the lines of a script, counted from 0, and its number.
-#[derive(Clone, Copy)]
-struct Command {
-    place: usize,
-    number: u32,
-}
-
-/// The first line with a word from this place on.
-fn command_from(lines: &[Line], place: usize) -> Option<Command>
-    ensures found { (state : State) → arrive_ahead state place (drop place lines.now) ≡ arrive_found state result }
-    ensures within { IfSome result (λ command. command.place < length lines.now) }
-{
-    for at in place..lines.len() {
-        let line = &lines[at];
-        if line.is_command() {
-            return Some(Command {
-                place: at,
-                number: line.number,
-            });
-        }
-    }
-    None
-}
-
 impl MachineState {
     /// What the machine keeps before the first line, without settings.
     pub fn new(alloc: Global) -> MachineState
@@ -63,10 +40,11 @@ impl MachineState {
     }
 
     /// Goes to the next line with a word, and counts it.
-    pub fn arrive(&mut self, lines: &[Line]) -> Result<Arrival, LineFault>
-        ensures { arrive lines.now (state_of self.old) ≡ arrived_to (state_of self.new) result }
+    pub fn arrive(&mut self, script: &LabelledScript) -> Result<Arrival, LineFault>
+        ensures arrival { arrive script.now (state_of self.old) ≡ arrived_to (state_of self.new) result }
+        ensures script { IsScript script.now }
     {
-        let Some(command) = command_from(lines, self.place) else {
+        let Some(command) = script.command_from(self.place) else {
             return Ok(Arrival::End);
         };
         if self.arrivals >= MOST_COMMANDS {

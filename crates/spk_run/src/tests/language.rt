@@ -102,6 +102,19 @@ fn jumps_far(rt: HostRuntime) -> Result<(), TestFailed> {
     Ok(())
 }
 
+/// Lines without a word cost nothing, however often they are passed.
+#[test]
+fn passes_empty_lines(rt: HostRuntime) -> Result<(), TestFailed> {
+    let alloc = rt.alloc();
+    let mut script = String::from_str(alloc, "label a\n")?;
+    put_many(&mut script, "\n", 99_990)?;
+    script.push_str("jump SELF a\n")?;
+    let screen = "ERROR: line 99992: (112) more than 1000000 commands\n";
+    let ended = unlogged(alloc, script.as_bytes())?;
+    ended.expect(&rt, 1, screen, None, "empty lines");
+    Ok(())
+}
+
 /// Commands of the language are not counted among those that come in one order.
 #[test]
 fn obeys_commands_in_loops(rt: HostRuntime) -> Result<(), TestFailed> {
