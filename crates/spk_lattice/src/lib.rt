@@ -4,3 +4,4 @@
 pub mod lattice;
 
 pub use lattice::{Lattice, LatticeFault};
+pub use spk_num::{Bound, Shape, Style};

@@ -1,4 +1,5 @@
 pub mod Decimal
 pub mod Draws
 pub mod Logarithm
+pub mod Names
 pub mod Whole

@@ -11,7 +11,8 @@ use Rattle.spk_num.specs.Decimal.{millionths_of}
 use Rattle.spk_script.specs.declared.formula.part.Part.{Part}
 use Rattle.spk_script.specs.declared.formula.part.Token.{Token}
 use Rattle.spk_script.specs.Words.{is_blank}
-use Rattle.spk_script.specs.Formulas.{is_name_byte, is_number_byte, number_of, more_of, token_of, parts_behind}
+use Rattle.spk_num.specs.Names.{is_name_byte}
+use Rattle.spk_script.specs.Formulas.{is_number_byte, number_of, more_of, token_of, parts_behind}
 use Rattle.spk_script.specs.Parts.{token_at, length_at}
 
 -- a run in front, by its length

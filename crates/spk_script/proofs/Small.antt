@@ -12,7 +12,8 @@ use Rattle.spk_script.specs.declared.formula.part.Token.{Token}
 use Rattle.spk_script.specs.declared.formula.part.Token.TheVariants.{Name, Open, Close, Sign, Broken}
 use Rattle.spk_script.specs.declared.formula.part.Part.{Part}
 use Rattle.spk_script.specs.Words.{is_blank}
-use Rattle.spk_script.specs.Formulas.{is_name_byte, is_number_byte, number_of, name_of, variable_of, token_of, more_of, parts_behind, parts_of}
+use Rattle.spk_num.specs.Names.{is_name_byte}
+use Rattle.spk_script.specs.Formulas.{is_number_byte, number_of, name_of, variable_of, token_of, more_of, parts_behind, parts_of}
 use Rattle.spk_script.specs.Evaluation.{IsSmall}
 
 signed_abs : (negative : Bool) (m : ℕ) → unsigned_abs (signed negative m) ≡ m

@@ -4,8 +4,9 @@
 --
 -- Blanks may stand between the parts. The grammar is our own.
 use Rattle.std.specs.Prelude.{ℕ, zero, suc, ◌+◌, ◌*◌, Bool, true, false, ◌||◌, ◌==◌, nat_lt, if◌then◌else◌, List, [], ◌∷◌, length, take_while, reverse, Option, Some, None, Result, Ok, Err, ℤ}
-use Rattle.std.specs.Char.{is_ascii_digit, is_ascii_alphanumeric}
+use Rattle.std.specs.Char.{is_ascii_digit}
 use Rattle.spk_num.specs.Decimal.{millionths_of}
+use Rattle.spk_num.specs.Names.{is_name_byte}
 use Rattle.spk_num.specs.declared.decimal.DecFault.{DecFault}
 use Rattle.spk_script.specs.declared.formula.part.Operator.{Operator}
 use Rattle.spk_script.specs.declared.formula.part.Operator.TheVariants.{Plus, Minus, Times, Over}
@@ -13,10 +14,6 @@ use Rattle.spk_script.specs.declared.formula.part.Token.{Token}
 use Rattle.spk_script.specs.declared.formula.part.Token.TheVariants.{Number, Name, Open, Close, Sign, Broken}
 use Rattle.spk_script.specs.declared.formula.part.Part.{Part}
 use Rattle.spk_script.specs.Words.{is_blank}
-
--- a letter, a digit or `_`
-abbrev pub is_name_byte : ℕ → Bool
-is_name_byte b = is_ascii_alphanumeric b || (b == 95)
 
 -- a number goes as far as digits and dots go
 abbrev pub is_number_byte : ℕ → Bool

@@ -1,6 +1,5 @@
 -- The machine that goes through a script: where it stands, what it arrives at, and what it makes of a line.
-use Rattle.std.specs.Prelude.{ℕ, ◌+◌, ◌-◌, Bool, true, false, ◌&&◌, ◌==◌, nat_lt, nat_le, if◌then◌else◌, List, [], ◌∷◌, length, drop, position, slice_get, codes, Option, Some, None, is_some, Ok, Err}
-use Rattle.std.specs.List.{list_all}
+use Rattle.std.specs.Prelude.{ℕ, ◌+◌, ◌-◌, Bool, true, false, ◌&&◌, ◌==◌, nat_lt, if◌then◌else◌, List, [], ◌∷◌, drop, position, slice_get, codes, Option, Some, None, is_some, Ok, Err}
 use Rattle.std.specs.Map.{update}
 use Rattle.std.specs.Str.{bytes_eq}
 use Rattle.spk_num.specs.Whole.{whole_within}
@@ -15,7 +14,7 @@ use Rattle.spk_script.specs.declared.machine.Step.TheVariants.{Words, Own}
 use Rattle.spk_script.specs.declared.setting.Setting.{Setting}
 use Rattle.spk_script.specs.Lines.{LogicalLine, is_command}
 use Rattle.spk_script.specs.Faults.{Judged, ◌>>=◌, ◌>>◌}
-use Rattle.spk_script.specs.Formulas.{is_name_byte}
+use Rattle.spk_num.specs.Names.{is_name}
 use Rattle.spk_script.specs.Values.{Environment}
 use Rattle.spk_script.specs.Replacing.{line_words}
 
@@ -68,10 +67,6 @@ arrive lines state = arrive_ahead state state.place (drop state.place lines)
 -- the line that the machine stands at
 abbrev pub line_at : List LogicalLine → State → Option LogicalLine
 line_at lines state = if state.place == 0 then None else slice_get lines (state.place - 1)
-
--- a name has 1 to 32 letters, digits or `_`
-abbrev pub is_name : List ℕ → Bool
-is_name name = nat_lt 0 (length name) && nat_le (length name) 32 && list_all is_name_byte name
 
 abbrev pub name_judged : List ℕ → Judged (Unit {0})
 name_judged name = if is_name name then Ok tt else Err (BadName name)

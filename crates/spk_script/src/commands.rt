@@ -1,11 +1,10 @@
 //! The commands that the machine obeys itself: `variable`, `next`, `label` and `jump`.
 
 ghost use Rattle.std.specs.Prelude.{◌≡◌, ◌≤◌, length, IfOk, OnErr, Ok};
-ghost use Rattle.std.specs.List.{All, list_all};
+ghost use Rattle.std.specs.List.{All};
 ghost use Rattle.spk_num.specs.Whole.{whole_within};
 ghost use Rattle.spk_script.specs.Faults.{Answers};
-ghost use Rattle.spk_script.specs.Formulas.{is_name_byte};
-ghost use Rattle.spk_script.specs.Machine.{is_name, name_judged, none_left, with_new_variable, with_variable};
+ghost use Rattle.spk_script.specs.Machine.{name_judged, none_left, with_new_variable, with_variable};
 ghost use Rattle.spk_script.specs.Machine.{looped, loop_made, string_made, equal_made, variable_styled, variable_named, variable_made};
 ghost use Rattle.spk_script.specs.Machine.{stepped_by, step_named, stepped, labelled, jumped_to, jumped};
 ghost use Rattle.spk_script.specs.Standing.{state_of, made_to};
@@ -15,35 +14,13 @@ use crate::labelled_script::LabelledScript;
 use crate::state::MachineState;
 use crate::variable::{FormulaText, Values, Variable};
 use crate::variable_table::Stepped;
+use spk_num::name::is_name;
 use spk_num::text::Text;
 use spk_num::whole::whole_within;
 use std::alloc::{AllocError, Global};
 
-/// The longest name, in bytes.
-const LONGEST_NAME: usize = 32;
-
 /// The most turns of a loop.
 const MOST_TURNS: u64 = 1_000_000;
-
-/// Whether a name may have this byte.
-fn is_name_byte(byte: u8) -> bool
-    ensures { result ≡ is_name_byte byte }
-{
-    byte.is_ascii_alphanumeric() || byte == b'_'
-}
-
-fn are_name_bytes(word: &[u8]) -> bool
-    ensures { result ≡ list_all is_name_byte word.now }
-{
-    word.iter().all(|byte| is_name_byte(*byte))
-}
-
-/// Whether a word is a name of 1 to 32 letters, digits or `_`.
-fn is_name(word: &[u8]) -> bool
-    ensures { result ≡ is_name word.now }
-{
-    !word.is_empty() && word.len() <= LONGEST_NAME && are_name_bytes(word)
-}
 
 /// Refuses a word that is no name.
 #[tactic(auto, using(crate::proofs::FaultLaws::judged))]

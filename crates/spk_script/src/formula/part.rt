@@ -3,16 +3,15 @@
 ghost use Rattle.std.specs.Prelude.{◌≡◌, ◌<◌, ◌≤◌, length, take_while, IfOk};
 ghost use Rattle.std.specs.Str.{IsAscii};
 ghost use Rattle.spk_num.specs.Decimal.{millionths_of};
-ghost use Rattle.spk_script.specs.Formulas.{is_name_byte, is_number_byte, number_of, name_of, variable_of, parts_of};
+ghost use Rattle.spk_num.specs.Names.{is_name_byte};
+ghost use Rattle.spk_script.specs.Formulas.{is_number_byte, number_of, name_of, variable_of, parts_of};
 ghost use Rattle.spk_script.specs.Parts.{mark_of, token_at, length_at};
 
 use crate::bytes::is_blank;
 use spk_num::decimal::Dec;
+use spk_num::name::{LONGEST_NAME, is_name_byte};
 use spk_num::text::Text;
 use std::alloc::{AllocError, Global};
-
-/// The most bytes that the name of a variable may have.
-const LONGEST_NAME: usize = 32;
 
 /// An operator between two numbers. A minus may stand before one number too.
 #[derive(Clone, Copy, Debug, PartialEq, Eq)]
@@ -41,12 +40,6 @@ pub enum Token {
 pub struct Part {
     pub place: u32,
     pub token: Token,
-}
-
-fn is_name_byte(byte: u8) -> bool
-    ensures { result ≡ is_name_byte byte }
-{
-    byte.is_ascii_alphanumeric() || byte == b'_'
 }
 
 fn is_number_byte(byte: u8) -> bool

@@ -1,6 +1,5 @@
-use Rattle.std.proofs.Common.{◌≡◌, ℕ, List, [], sym, ap, ◌∙◌}
+use Rattle.std.proofs.Common.{[], sym, ◌∙◌}
 use Rattle.spk_script.specs.Lines.{LogicalLine}
-use Rattle.spk_script.specs.Machine.{arrive_at}
 use Rattle.spk_script.proofs.Arriving.{ahead_first_from, ahead_nothing, place_in_table}
 use Rattle.spk_script.proofs.labelled_script.LabelledScript.command_from.Goals as goal
 
