@@ -1,0 +1,14 @@
+pub mod Chains
+pub mod CommandLines
+pub mod DecimalWords
+pub mod FoundRows
+pub mod InTable
+pub mod Inputs
+pub mod Judgements
+pub mod NumberRows
+pub mod Numerals
+pub mod RegionRows
+pub mod SetRows
+pub mod SomeWords
+pub mod StyleRows
+pub mod WordRows

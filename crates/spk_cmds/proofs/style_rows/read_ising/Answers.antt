@@ -1,0 +1,12 @@
+use Rattle.std.proofs.Common.{rules}
+use Rattle.spk_cmds.specs.declared.command.AppStyle.TheVariants.{Ising}
+use Rattle.spk_cmds.specs.declared.command.Command.TheVariants.{App}
+use Rattle.spk_cmds.proofs.StyleRows.{alone_read, ising_few, ising_many}
+use Rattle.spk_cmds.proofs.style_rows.read_ising.Goals as goal
+use Rattle.spk_cmds.proofs.style_rows.read_ising.Goals.{in_default-via-then-words-lt1, in_default-via-else-words-lt1+else-words-lt2}
+
+pub returns-in_default : goal.returns-in_default
+returns-in_default c = elim c.in_default.branch [ in_default-via-then-words-lt1 w ↦ search (rules, ising_few) | in_default-via-else-words-lt1+else-words-lt2 w ↦ search (rules, ising_many) ]
+
+pub returns : goal.returns
+returns c = alone_read (App Ising) c.args.words.now c.in-len1.len_at_least c.in-len1.len_below

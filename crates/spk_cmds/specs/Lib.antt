@@ -1,0 +1,9 @@
+pub mod CommandLine
+pub mod Inputs
+pub mod Judging
+pub mod Kinds
+pub mod Numbers
+pub mod Ranges
+pub mod Readings
+pub mod Table
+pub mod Takings
