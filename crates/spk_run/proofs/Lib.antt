@@ -1,9 +1,11 @@
+pub mod CommandSteps
 pub mod Cycles
 pub mod DrawnValues
 pub mod Headline
 pub mod Loading
 pub mod Logs
 pub mod Obeying
+pub mod OfContent
 pub mod Steps
 pub mod Turns
 pub mod Weights

@@ -8,19 +8,19 @@ use Rattle.spk_world.specs.Effects.{writes, LoadFailed, WriteFailed, MemoryWanti
 use Rattle.spk_world.specs.declared.world.Failed.{Failed}
 use Rattle.spk_world.proofs.EffectLaws.{wrote_answer}
 use Rattle.spk_world.proofs.Writes.{failed_says, wrote_adds, failed_adds, wrote_no_adds, wrote_starts, failed_starts}
-use Rattle.spk_run.specs.declared.options.Options.{Options}
-use Rattle.spk_run.specs.declared.trouble.WriteTrouble.TheVariants.{Screen, File}
-use Rattle.spk_run.specs.declared.trouble.Trouble.TheVariants.{Memory, Read}
-use Rattle.spk_run.specs.Troubles.{write_stop, stop_of}
-use Rattle.spk_run.specs.Commands.{logged, started_log}
+use Rattle.spk_cmds.specs.declared.options.Options.{Options}
+use Rattle.spk_run.specs.declared.trouble.WriteTrouble.TheVariants.{Screen, Log}
+use Rattle.spk_run.specs.declared.trouble.Fault.TheVariants.{Memory, Read}
+use Rattle.spk_run.specs.Troubles.{write_stop, stop_of, script_name}
+use Rattle.spk_run.specs.Output.{logged, started_log}
 
 pub write_stop-screen : (log : Option (List ℕ)) → write_stop log Screen ≡ WriteFailed ScreenPlace
 unfolding write_stop
 write_stop-screen log = refl
 
-pub write_stop-file : (log : Option (List ℕ)) (name : List ℕ) → log ≡ Some name → write_stop log File ≡ WriteFailed (FilePlace name)
+pub write_stop-log : (log : Option (List ℕ)) (name : List ℕ) → log ≡ Some name → write_stop log Log ≡ WriteFailed (FilePlace name)
 unfolding write_stop
-write_stop-file log name is = rw is refl
+write_stop-log log name is = rw is refl
 
 pub stop_of-memory : (options : Options) → stop_of options Memory ≡ MemoryWanting
 unfolding stop_of
@@ -44,9 +44,9 @@ pub log_written : (log : Option (List ℕ)) (name : List ℕ) (before now : Opti
 log_written log name before now f0 f1 text is some done cause = rw is (wrote_adds _ before now f0 f1 name text some done cause)
 
 pub log_failed : (log : Option (List ℕ)) (name : List ℕ) (before now : Option Outside) (f0 f1 : Faults) (text : List ℕ) (fault : Failed) → log ≡ Some name → 0 < length text →
-    WritesFront before now (adds name text) → FileCause {T = Unit {0}} f0 f1 (Err fault) → Wrote (write_stop log) before now f0 f1 (logged log text) (Err File)
+    WritesFront before now (adds name text) → FileCause {T = Unit {0}} f0 f1 (Err fault) → Wrote (write_stop log) before now f0 f1 (logged log text) (Err Log)
 log_failed log name before now f0 f1 text fault is some front cause =
-    rw is (failed_adds _ before now f0 f1 name text fault _ some (write_stop-file (Some name) name refl) front cause)
+    rw is (failed_adds _ before now f0 f1 name text fault _ some (write_stop-log (Some name) name refl) front cause)
 
 pub no_log_started : (log : Option (List ℕ)) (told : Option Outside) (faults : Faults) → log ≡ None → Wrote (write_stop log) told told faults faults (started_log log) (Ok tt)
 no_log_started log told faults is = rw is wrote_answer
@@ -56,10 +56,10 @@ pub log_started : (log : Option (List ℕ)) (name : List ℕ) (before now : Opti
 log_started log name before now f0 f1 is done cause = rw is (wrote_starts _ before now f0 f1 name done cause)
 
 pub log_not_started : (log : Option (List ℕ)) (name : List ℕ) (before now : Option Outside) (f0 f1 : Faults) (fault : Failed) → log ≡ Some name →
-    WritesFront before now (starts name) → FileCause {T = Unit {0}} f0 f1 (Err fault) → Wrote (write_stop log) before now f0 f1 (started_log log) (Err File)
+    WritesFront before now (starts name) → FileCause {T = Unit {0}} f0 f1 (Err fault) → Wrote (write_stop log) before now f0 f1 (started_log log) (Err Log)
 log_not_started log name before now f0 f1 fault is front cause =
-    rw is (failed_starts _ before now f0 f1 name fault _ (write_stop-file (Some name) name refl) front cause)
+    rw is (failed_starts _ before now f0 f1 name fault _ (write_stop-log (Some name) name refl) front cause)
 
-pub stop_of-read : (options : Options) → stop_of options Read ≡ LoadFailed options.script
+pub stop_of-read : (options : Options) → stop_of options Read ≡ LoadFailed (script_name options.input)
 unfolding stop_of
 stop_of-read options = refl

@@ -1,10 +1,11 @@
 -- How a run of the program ends: with its answer, its refusals and their texts.
-use Rattle.std.specs.Prelude.{◌≡◌, ℕ, List, [], ◌∷◌, ◌++◌, codes, decimal, Option, Some, None}
+use Rattle.std.specs.Prelude.{◌≡◌, ℕ, zero, suc, List, [], ◌∷◌, ◌++◌, codes, decimal, Option, Some, None, Result, Ok, Err}
 use Rattle.spk_world.specs.Outside.{Outside, Place, Screen, File, after}
 use Rattle.spk_world.specs.Causes.{Faults, Rose}
 use Rattle.spk_world.specs.Effects.{Outcome, Effect, LoadFailed, WriteFailed, MemoryWanting, Stopped}
+use Rattle.spk_cmds.specs.declared.options.Options.{Options}
 use Rattle.spk_run.specs.declared.answer.Cause.{Cause}
-use Rattle.spk_run.specs.declared.answer.Cause.TheVariants.{ScriptTooLong, NotAscii, OpenQuote, TooManyLines, LineTooLong, TooManyCommands, UnknownVariable, WrongWords, BadName, BadFormula, Inexact, NumberTooLarge, LoopValue, NotStepped, OtherFile, NoSuchLabel, BadStyle, NotBuilt, FileMissing}
+use Rattle.spk_run.specs.declared.answer.Cause.TheVariants.{ScriptTooLong, NotAscii, OpenQuote, TooManyLines, LineTooLong, TooManyCommands, UnknownVariable, WrongWords, BadName, BadFormula, Inexact, NumberTooLarge, LoopValue, NotStepped, OtherFile, NoSuchLabel, BadStyle, UnknownCommand, UnknownStyle, WrongCount, BadNumber, OutOfRange, NotBuilt, BadCommandName, NoSeed, NoApp, NoLattice, NoBox, NoSites, AlreadyMade, RegionTwice, NoSuchRegion, RegionEmpty, TooManyRegions, BoxNotBlock, BoxNotWhole, TooSmall, TooManySites, NoSolver, BadValueForApp, RunTooLong, FileMissing}
 use Rattle.spk_run.specs.declared.answer.Target.{Target}
 use Rattle.spk_run.specs.declared.answer.Target.TheVariants as target
 use Rattle.spk_run.specs.declared.answer.Ending.{Ending}
@@ -31,8 +32,37 @@ cause_number (NotStepped name) = 120
 cause_number OtherFile = 121
 cause_number (NoSuchLabel label) = 122
 cause_number (BadStyle word) = 123
+cause_number (UnknownCommand word) = 201
+cause_number (UnknownStyle word) = 202
+cause_number WrongCount = 203
+cause_number (BadNumber word) = 204
+cause_number (OutOfRange word) = 205
 cause_number (NotBuilt word) = 206
+cause_number (BadCommandName word) = 207
+cause_number NoSeed = 301
+cause_number NoApp = 302
+cause_number NoLattice = 303
+cause_number NoBox = 304
+cause_number NoSites = 305
+cause_number AlreadyMade = 306
+cause_number (RegionTwice name) = 308
+cause_number (NoSuchRegion name) = 309
+cause_number RegionEmpty = 310
+cause_number TooManyRegions = 312
+cause_number BoxNotBlock = 313
+cause_number (BoxNotWhole dimension) = 314
+cause_number (TooSmall dimension) = 315
+cause_number TooManySites = 316
+cause_number NoSolver = 319
+cause_number (BadValueForApp site) = 324
+cause_number RunTooLong = 326
 cause_number (FileMissing name) = 401
+
+-- dimensions are x, y and z
+abbrev pub dimension_text : ℕ → List ℕ
+dimension_text zero = codes "x"
+dimension_text (suc zero) = codes "y"
+dimension_text dimension = codes "z"
 
 abbrev pub cause_text : Cause → List ℕ
 cause_text ScriptTooLong = codes "script over 1048576 bytes"
@@ -52,7 +82,30 @@ cause_text (NotStepped name) = codes "variable " ++ (name ++ codes " has no next
 cause_text OtherFile = codes "jump to another file"
 cause_text (NoSuchLabel label) = codes "no label " ++ label
 cause_text (BadStyle word) = codes "unknown variable style " ++ word
+cause_text (UnknownCommand word) = codes "unknown command " ++ word
+cause_text (UnknownStyle word) = codes "unknown word " ++ word
+cause_text WrongCount = codes "wrong number of words"
+cause_text (BadNumber word) = codes "bad number " ++ word
+cause_text (OutOfRange word) = codes "number out of range " ++ word
 cause_text (NotBuilt word) = codes "not built yet " ++ word
+cause_text (BadCommandName word) = codes "bad name " ++ word
+cause_text NoSeed = codes "no seed"
+cause_text NoApp = codes "no app_style"
+cause_text NoLattice = codes "no lattice"
+cause_text NoBox = codes "no box"
+cause_text NoSites = codes "no sites"
+cause_text AlreadyMade = codes "already made"
+cause_text (RegionTwice name) = codes "region " ++ (name ++ codes " is there")
+cause_text (NoSuchRegion name) = codes "no region " ++ name
+cause_text RegionEmpty = codes "region is empty"
+cause_text TooManyRegions = codes "more than 128 regions"
+cause_text BoxNotBlock = codes "box is not a block"
+cause_text (BoxNotWhole dimension) = codes "box is not whole in " ++ dimension_text dimension
+cause_text (TooSmall dimension) = codes "fewer than 3 cells in " ++ dimension_text dimension
+cause_text TooManySites = codes "more than 4194304 sites"
+cause_text NoSolver = codes "no solve_style and no sweep"
+cause_text (BadValueForApp site) = codes "bad value at site " ++ decimal site
+cause_text RunTooLong = codes "run too long"
 cause_text (FileMissing name) = codes "no file " ++ name
 
 -- the line that says why a script is refused, and at which line
@@ -123,9 +176,38 @@ IsUsageAt place (WriteFault target.Screen) = Unit {0}
 IsUsageAt place OutOfMemory = Unit {0}
 IsUsageAt place answer = ⊥
 
+-- The first bad word is answered where the words are refused, at its place, and else never.
+abbrev pub IsUsageOf : Result Options ℕ → Answer → Type 0
+IsUsageOf (Err place) answer = IsUsageAt place answer
+IsUsageOf (Ok options) (Usage word) = ⊥
+IsUsageOf (Ok options) answer = Unit {0}
+
 -- A fault is answered only where the count of its kind rose.
 abbrev pub AnswerCause : Faults → Faults → Answer → Type 0
 AnswerCause before now (ReadFault name) = Rose before.loads now.loads
 AnswerCause before now (WriteFault target.Screen) = Rose before.screen now.screen
 AnswerCause before now (WriteFault (target.File name)) = Rose before.files now.files
 AnswerCause before now answer = Unit {0}
+
+-- no load and no write has failed
+pub record NoneRose (before now : Faults) : Type 0 where
+  pub loads : Rose before.loads now.loads → ⊥
+  pub files : Rose before.files now.files → ⊥
+  pub screen : Rose before.screen now.screen → ⊥
+
+-- Completeness: the answer is the plain simulator's, or memory was wanting. Where nothing is told it is no fault, and no
+-- refusal for the file that a script is.
+abbrev pub IsOrWants : Answer → Answer → Type 0
+IsOrWants plain OutOfMemory = Unit {0}
+IsOrWants plain answer = answer ≡ plain
+
+abbrev pub IsNoFault : Answer → Type 0
+IsNoFault (Refused line (FileMissing name)) = ⊥
+IsNoFault (Refused line ScriptTooLong) = ⊥
+IsNoFault (ReadFault name) = ⊥
+IsNoFault (WriteFault at) = ⊥
+IsNoFault answer = Unit {0}
+
+abbrev pub IsComplete : Option Outside → Effect Answer → Answer → Type 0
+IsComplete None plain answer = IsNoFault answer
+IsComplete (Some outside) plain answer = IsOrWants (plain outside).answer answer

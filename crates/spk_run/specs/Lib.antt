@@ -1,8 +1,9 @@
-pub mod Commands
 pub mod Endings
-pub mod Forms
-pub mod Options
+pub mod Output
 pub mod Passing
 pub mod Plain
+pub mod Regions
+pub mod Runs
+pub mod Session
 pub mod Troubles
 pub mod Turn

@@ -66,8 +66,54 @@ pub enum Cause {
     NoSuchLabel(Text),
     /// No variable has this style.
     BadStyle(Text),
-    /// A command with this first word isn't built yet.
+    /// No command has this name.
+    UnknownCommand(Text),
+    /// A command takes another word in the place of this one.
+    UnknownStyle(Text),
+    /// A command takes another number of words.
+    WrongCount,
+    /// This word is no number of its kind.
+    BadNumber(Text),
+    /// This number isn't in its range.
+    OutOfRange(Text),
+    /// This command or word isn't built yet.
     NotBuilt(Text),
+    /// This word of a command is no name.
+    BadCommandName(Text),
+    /// No `seed` was given.
+    NoSeed,
+    /// No `app_style` was given.
+    NoApp,
+    /// No `lattice` was given.
+    NoLattice,
+    /// There is no box yet.
+    NoBox,
+    /// There are no sites yet.
+    NoSites,
+    /// It was given or made already.
+    AlreadyMade,
+    /// A region has this name already.
+    RegionTwice(Text),
+    /// No region has this name.
+    NoSuchRegion(Text),
+    /// A region's low bound is above its high one.
+    RegionEmpty,
+    /// It would be the 129th region.
+    TooManyRegions,
+    /// A box is made of a region that is no block.
+    BoxNotBlock,
+    /// A box does not reach from 0 to a whole number in this dimension, 0 to 2 for x to z.
+    BoxNotWhole(u32),
+    /// A box has fewer than 3 cells in this dimension.
+    TooSmall(u32),
+    /// A box has more than 4194304 sites.
+    TooManySites,
+    /// Neither a solver nor a sweep was given.
+    NoSolver,
+    /// The application has no such value as that of this site.
+    BadValueForApp(u32),
+    /// A run has more than 10^9 steps, or ends behind 4 * 10^18 ticks.
+    RunTooLong,
     /// No file has this name.
     FileMissing(Text),
 }

@@ -1,159 +1,141 @@
-//! The commands of a script, obeyed by their words.
+//! The commands of a script by their words: they are read, and then obeyed or refused.
 
-ghost use Rattle.std.specs.Prelude.{◌≡◌, ◌+◌, ◌-◌, ◌^◌, ◌<◌, ◌∷◌, ◌++◌, [], codes, IfOk};
-ghost use Rattle.spk_world.specs.Effects.{Wrote};
-ghost use Rattle.spk_run.specs.Forms.{form_of, place_of_form};
-ghost use Rattle.spk_run.specs.Endings.{IsOfContent};
-ghost use Rattle.spk_run.specs.Commands.{in_place, IsCommandStep, ended, form_obeyed, text_printed, printed, words_obeyed};
-ghost use Rattle.spk_run.specs.Troubles.{stop_of};
+ghost use Rattle.std.specs.Prelude.{◌≡◌, Ok, Err, Some, IfOk};
+ghost use Rattle.spk_cmds.specs.Judging.{Judged, Answers};
+ghost use Rattle.spk_cmds.specs.Ranges.{InRanges};
+ghost use Rattle.spk_cmds.specs.declared.command.Command.{Command as Made};
+ghost use Rattle.spk_script.specs.Machine.{State};
+ghost use Rattle.spk_world.specs.Effects.{WriteFailed, Wrote};
+ghost use Rattle.spk_run.specs.declared.state.SessionState.{SessionState};
+ghost use Rattle.spk_run.specs.Endings.{IsOfContent, place_of_target};
+ghost use Rattle.spk_run.specs.Plain.{cause_of_words, ended_for, command_obeyed, words_obeyed};
+ghost use Rattle.spk_run.specs.Passing.{passed_to, IsStep};
+ghost use Rattle.spk_run.specs.Troubles.{write_stop, stop_of, NamesLog};
 
-use crate::answer::{Cause, Ending};
-use crate::form::{Form, form_of};
-use crate::options::Options;
-use crate::output::{refuse, tell};
-use crate::session::{Session, Step};
-use crate::trouble::Trouble;
+use crate::answer::{Cause, Ending, Target};
+use crate::output::refuse;
+use crate::session::Session;
+use crate::trouble::{Fault, Trouble, WriteTrouble};
+use spk_cmds::{Command, CommandFault, Options, command_of};
 use spk_num::text::Text;
 use spk_world::World;
-use std::alloc::{AllocError, Global};
+use std::alloc::Global;
 
-/// The form that these words have, where it is the next one behind so many others.
-fn next_form(obeyed: u32, words: &[Text]) -> Option<Form>
-    requires { obeyed < 2 ^ 32 - 1 }
-    ensures { result ≡ in_place obeyed (form_of words.now) }
-{
-    let form = form_of(words)?;
-    if form.place() == obeyed + 1 {
-        Some(form)
-    } else {
-        None
-    }
+/// What stands behind a line: the script goes on, or it has ended.
+#[derive(Debug, Drop)]
+pub enum Step {
+    Goes,
+    Ends(Ending),
 }
 
 /// Ends the script at a line that is refused.
-fn end<W: World>(
+pub fn end<W: World>(
     alloc: Global,
     world: &mut W,
     options: &Options,
     number: u32,
     cause: Cause,
-) -> Result<Step, Trouble>
-    ensures wrote { Wrote (stop_of options.now) (W.told world.old) (W.told world.new) (W.faults world.old) (W.faults world.new)
-        (ended options.now.log number cause) result }
-    ensures step { IsOfContent (Ending.Refused number cause) → IfOk result (IsCommandStep 0) }
+) -> Result<Step, Fault>
+    ensures wrote { (state : State) (session : SessionState) →
+        Wrote (stop_of options.now) (W.told world.old) (W.told world.new) (W.faults world.old) (W.faults world.new)
+        (ended_for options.now.log number (Some cause)) (passed_to state session result) }
+    ensures step { IsOfContent (Ending.Refused number cause) → IfOk result IsStep }
 {
     let ending = refuse(alloc, world, options, number, cause)?;
     Ok(Step::Ends(ending))
 }
 
-/// Obeys a command whose first word is this one, where it has the next form, and else refuses it.
-fn obey_form<W: World>(
-    alloc: Global,
-    world: &mut W,
-    options: &Options,
-    number: u32,
-    session: Session,
-    first: &Text,
-    form: Option<Form>,
-) -> Result<Step, Trouble>
-    requires { session.obeyed < 2 ^ 32 - 1 }
-    ensures wrote { Wrote (stop_of options.now) (W.told world.old) (W.told world.new) (W.faults world.old) (W.faults world.new)
-        (form_obeyed options.now.log number session first.now form) result }
-    ensures step { IfOk result (IsCommandStep (session.obeyed + 1)) }
+/// The cause that a fault of words is. Want of memory is none.
+fn cause_of(fault: CommandFault) -> Option<Cause>
+    ensures { result ≡ cause_of_words fault }
 {
-    match form {
-        None => {
-            let word = Text::copy(alloc, first.as_str())?;
-            end(alloc, world, options, number, Cause::NotBuilt(word))
-        }
-        Some(form) => {
-            let next = session.obey(alloc, world, options, form)?;
-            Ok(Step::Goes(next))
-        }
+    match fault {
+        CommandFault::UnknownCommand(word) => Some(Cause::UnknownCommand(word)),
+        CommandFault::UnknownStyle(word) => Some(Cause::UnknownStyle(word)),
+        CommandFault::WrongCount => Some(Cause::WrongCount),
+        CommandFault::BadNumber(word) => Some(Cause::BadNumber(word)),
+        CommandFault::OutOfRange(word) => Some(Cause::OutOfRange(word)),
+        CommandFault::NotBuilt(word) => Some(Cause::NotBuilt(word)),
+        CommandFault::BadName(word) => Some(Cause::BadCommandName(word)),
+        CommandFault::Memory => None,
     }
 }
 
-/// A text with a line feed behind it.
-fn with_line_feed(alloc: Global, text: &[u8]) -> Result<Vec<u8>, AllocError>
-    ensures { IfOk result (λ line. line.items ≡ text.now ++ 10 ∷ []) }
-{
-    let mut line = Vec::with_capacity(alloc, text.len().saturating_add(1))?;
-    line.extend_from_slice(text)?;
-    line.push(b'\n')?;
-    Ok(line)
-}
-
-/// Prints a text to the screen, and then to the log.
-fn print_text<W: World>(
-    alloc: Global,
-    world: &mut W,
-    options: &Options,
-    session: Session,
-    text: &Text,
-) -> Result<Step, Trouble>
-    ensures wrote { Wrote (stop_of options.now) (W.told world.old) (W.told world.new) (W.faults world.old) (W.faults world.new)
-        (text_printed options.now.log session text.now) result }
-    ensures step { IfOk result (IsCommandStep session.obeyed) }
-{
-    let line = with_line_feed(alloc, text.as_bytes())?;
-    tell(world, options, &line)?;
-    Ok(Step::Goes(session))
-}
-
-/// Refuses `print` with another number of words.
-fn refuse_print<W: World>(
+/// Ends the script for words that are no command.
+fn refuse_words<W: World>(
     alloc: Global,
     world: &mut W,
     options: &Options,
     number: u32,
-) -> Result<Step, Trouble>
-    ensures wrote { Wrote (stop_of options.now) (W.told world.old) (W.told world.new) (W.faults world.old) (W.faults world.new)
-        (ended options.now.log number (Cause.NotBuilt (codes "print"))) result }
-    ensures step { IfOk result (IsCommandStep 0) }
+    fault: CommandFault,
+) -> Result<Step, Fault>
+    ensures wrote { (plain : Judged Made) (state : State) (session : SessionState) → Answers plain (Err fault) →
+        Wrote (stop_of options.now) (W.told world.old) (W.told world.new) (W.faults world.old) (W.faults world.new)
+        (command_obeyed options.now.log number state session plain) (passed_to state session result) }
+    ensures step { IfOk result IsStep }
 {
-    let word = Text::copy(alloc, "print")?;
-    end(alloc, world, options, number, Cause::NotBuilt(word))
-}
-
-/// Obeys `print` with these words behind it.
-fn print<W: World>(
-    alloc: Global,
-    world: &mut W,
-    options: &Options,
-    number: u32,
-    session: Session,
-    words: &[Text],
-) -> Result<Step, Trouble>
-    ensures wrote { Wrote (stop_of options.now) (W.told world.old) (W.told world.new) (W.faults world.old) (W.faults world.new)
-        (printed options.now.log number session words.now) result }
-    ensures step { IfOk result (IsCommandStep session.obeyed) }
-{
-    match words {
-        [text] => print_text(alloc, world, options, session, text),
-        _ => refuse_print(alloc, world, options, number),
+    match cause_of(fault) {
+        Some(cause) => end(alloc, world, options, number, cause),
+        None => Err(Fault::Memory),
     }
 }
 
-/// Obeys a command by its words. None of them is nothing to obey.
+/// The write that failed where a command could not write there. A command writes no file but the log.
+#[tactic(auto, unfolding(crate::specs::Troubles::write_stop))]
+fn write_trouble(options: &Options, target: Target) -> WriteTrouble
+    requires { NamesLog options.now.log (Trouble.WriteFault target) }
+    ensures { write_stop options.now.log result ≡ WriteFailed (place_of_target target) }
+{
+    match target {
+        Target::Screen => WriteTrouble::Screen,
+        Target::File(_) => WriteTrouble::Log,
+    }
+}
+
+/// Obeys a command.
+fn obey_command<W: World>(
+    alloc: Global,
+    world: &mut W,
+    options: &Options,
+    number: u32,
+    session: &mut Session,
+    command: &Command,
+) -> Result<Step, Fault>
+    requires ranges { InRanges command.now }
+    requires log { session.old.state.log ≡ options.now.log }
+    ensures wrote { (state : State) →
+        Wrote (stop_of options.now) (W.told world.old) (W.told world.new) (W.faults world.old) (W.faults world.new)
+        (command_obeyed options.now.log number state session.old.state (Ok command.now)) (passed_to state session.new.state result) }
+    ensures step { IfOk result IsStep }
+    ensures log { session.new.state.log ≡ session.old.state.log }
+{
+    match session.obey(command, world) {
+        Ok(()) => Ok(Step::Goes),
+        Err(Trouble::Refused(cause)) => end(alloc, world, options, number, cause),
+        Err(Trouble::ReadFault(_)) => unreachable!(),
+        Err(Trouble::WriteFault(target)) => Err(Fault::Write(write_trouble(options, target))),
+        Err(Trouble::Memory) => Err(Fault::Memory),
+    }
+}
+
+/// Obeys a command by its words.
 pub fn obey_words<W: World>(
     alloc: Global,
     world: &mut W,
     options: &Options,
     number: u32,
-    session: Session,
+    session: &mut Session,
     words: &[Text],
-) -> Result<Step, Trouble>
-    requires { session.obeyed < 2 ^ 32 - 1 }
-    ensures wrote { Wrote (stop_of options.now) (W.told world.old) (W.told world.new) (W.faults world.old) (W.faults world.new)
-        (words_obeyed options.now.log number session words.now) result }
-    ensures step { IfOk result (IsCommandStep (session.obeyed + 1)) }
+) -> Result<Step, Fault>
+    requires { session.old.state.log ≡ options.now.log }
+    ensures wrote { (state : State) →
+        Wrote (stop_of options.now) (W.told world.old) (W.told world.new) (W.faults world.old) (W.faults world.new)
+        (words_obeyed options.now.log number state session.old.state words.now) (passed_to state session.new.state result) }
+    ensures step { IfOk result IsStep }
+    ensures log { session.new.state.log ≡ session.old.state.log }
 {
-    let [first, rest @ ..] = words else {
-        return Ok(Step::Goes(session));
-    };
-    if first.as_str() == "print" {
-        return print(alloc, world, options, number, session, rest);
+    match command_of(alloc, words) {
+        Ok(command) => obey_command(alloc, world, options, number, session, &command),
+        Err(fault) => refuse_words(alloc, world, options, number, fault),
     }
-    let form = next_form(session.obeyed, words);
-    obey_form(alloc, world, options, number, session, first, form)
 }

@@ -2,22 +2,25 @@
 #![tactic(auto)]
 
 mod answer;
+mod causes;
 mod commands;
-mod form;
 mod messages;
-mod numbers;
-mod options;
 mod output;
 mod propensities;
+mod regions;
 mod run;
 mod script_run;
+mod seed;
 mod session;
 mod simulate;
 mod sites;
+mod state;
 #[cfg(test)]
 mod tests;
 mod trouble;
 mod turn;
 
 pub use answer::{Answer, Cause, Target, status};
+pub use session::Session;
 pub use simulate::simulate_alone;
+pub use trouble::Trouble;

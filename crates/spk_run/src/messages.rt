@@ -1,7 +1,7 @@
 //! The lines that say why a script or a command line is refused.
 
 ghost use Rattle.std.specs.Prelude.{◌≡◌, ◌++◌, IfOk, string_bytes};
-ghost use Rattle.spk_run.specs.Endings.{cause_number, cause_text, refusal_text, usage_text};
+ghost use Rattle.spk_run.specs.Endings.{cause_number, cause_text, dimension_text, refusal_text, usage_text};
 
 use crate::answer::Cause;
 use spk_num::text::Text;
@@ -29,7 +29,30 @@ fn number(cause: &Cause) -> u32
         Cause::OtherFile => 121,
         Cause::NoSuchLabel(_) => 122,
         Cause::BadStyle(_) => 123,
+        Cause::UnknownCommand(_) => 201,
+        Cause::UnknownStyle(_) => 202,
+        Cause::WrongCount => 203,
+        Cause::BadNumber(_) => 204,
+        Cause::OutOfRange(_) => 205,
         Cause::NotBuilt(_) => 206,
+        Cause::BadCommandName(_) => 207,
+        Cause::NoSeed => 301,
+        Cause::NoApp => 302,
+        Cause::NoLattice => 303,
+        Cause::NoBox => 304,
+        Cause::NoSites => 305,
+        Cause::AlreadyMade => 306,
+        Cause::RegionTwice(_) => 308,
+        Cause::NoSuchRegion(_) => 309,
+        Cause::RegionEmpty => 310,
+        Cause::TooManyRegions => 312,
+        Cause::BoxNotBlock => 313,
+        Cause::BoxNotWhole(_) => 314,
+        Cause::TooSmall(_) => 315,
+        Cause::TooManySites => 316,
+        Cause::NoSolver => 319,
+        Cause::BadValueForApp(_) => 324,
+        Cause::RunTooLong => 326,
         Cause::FileMissing(_) => 401,
     }
 }
@@ -64,9 +87,52 @@ fn text(alloc: Global, cause: &Cause) -> Result<String, AllocError>
         Cause::OtherFile => String::from_str(alloc, "jump to another file"),
         Cause::NoSuchLabel(label) => with_word(alloc, "no label ", label),
         Cause::BadStyle(word) => with_word(alloc, "unknown variable style ", word),
+        Cause::UnknownCommand(word) => with_word(alloc, "unknown command ", word),
+        Cause::UnknownStyle(word) => with_word(alloc, "unknown word ", word),
+        Cause::WrongCount => String::from_str(alloc, "wrong number of words"),
+        Cause::BadNumber(word) => with_word(alloc, "bad number ", word),
+        Cause::OutOfRange(word) => with_word(alloc, "number out of range ", word),
         Cause::NotBuilt(word) => with_word(alloc, "not built yet ", word),
+        Cause::BadCommandName(word) => with_word(alloc, "bad name ", word),
+        Cause::NoSeed => String::from_str(alloc, "no seed"),
+        Cause::NoApp => String::from_str(alloc, "no app_style"),
+        Cause::NoLattice => String::from_str(alloc, "no lattice"),
+        Cause::NoBox => String::from_str(alloc, "no box"),
+        Cause::NoSites => String::from_str(alloc, "no sites"),
+        Cause::AlreadyMade => String::from_str(alloc, "already made"),
+        Cause::RegionTwice(name) => region_twice(alloc, name),
+        Cause::NoSuchRegion(name) => with_word(alloc, "no region ", name),
+        Cause::RegionEmpty => String::from_str(alloc, "region is empty"),
+        Cause::TooManyRegions => String::from_str(alloc, "more than 128 regions"),
+        Cause::BoxNotBlock => String::from_str(alloc, "box is not a block"),
+        Cause::BoxNotWhole(dimension) => with_dimension(alloc, "box is not whole in ", *dimension),
+        Cause::TooSmall(dimension) => with_dimension(alloc, "fewer than 3 cells in ", *dimension),
+        Cause::TooManySites => String::from_str(alloc, "more than 4194304 sites"),
+        Cause::NoSolver => String::from_str(alloc, "no solve_style and no sweep"),
+        Cause::BadValueForApp(site) => format!(in alloc; "bad value at site {site}"),
+        Cause::RunTooLong => String::from_str(alloc, "run too long"),
         Cause::FileMissing(name) => with_word(alloc, "no file ", name),
     }
+}
+
+/// A text that names a dimension.
+fn with_dimension(alloc: Global, front: &str, dimension: u32) -> Result<String, AllocError>
+    ensures { IfOk result (λ text. string_bytes text ≡ front.now ++ dimension_text dimension) }
+{
+    let name = match dimension {
+        0 => "x",
+        1 => "y",
+        _ => "z",
+    };
+    format!(in alloc; "{front}{name}")
+}
+
+/// What is said of a region whose name another one has.
+fn region_twice(alloc: Global, name: &Text) -> Result<String, AllocError>
+    ensures { IfOk result (λ text. string_bytes text ≡ cause_text (Cause.RegionTwice name.now)) }
+{
+    let name = name.as_str();
+    format!(in alloc; "region {name} is there")
 }
 
 /// What is said of a variable whose style has no next value.

@@ -1,23 +1,26 @@
 //! A script, obeyed command by command.
 
-ghost use Rattle.std.specs.Prelude.{◌≡◌, ◌+◌, ◌-◌, ◌^◌, ◌<◌, Ok, Err, IfOk};
+ghost use Rattle.std.specs.Prelude.{◌≡◌, List, Ok, Err, IfOk};
 ghost use Rattle.spk_script.specs.declared.machine.Step.{Step as LineStep};
+ghost use Rattle.spk_script.specs.Lines.{LogicalLine};
 ghost use Rattle.spk_script.specs.Faults.{Judged, Answers};
-ghost use Rattle.spk_script.specs.Machine.{State, new_state, line_at};
+ghost use Rattle.spk_script.specs.Machine.{State, new_state as new_machine, with_settings, line_at};
 ghost use Rattle.spk_script.specs.Standing.{state_of, read_to, StandsAt};
+ghost use Rattle.spk_script.proofs.Arriving.{CountsAt};
 ghost use Rattle.spk_world.specs.Effects.{Wrote};
 ghost use Rattle.spk_run.specs.Endings.{IsOfContent};
-ghost use Rattle.spk_run.specs.Commands.{IsCommandStep, new_session};
-ghost use Rattle.spk_run.specs.Plain.{cause_of_fault, ended_for, line_done, line_obeyed, next_obeyed, commands_obeyed};
+ghost use Rattle.spk_run.specs.declared.state.SessionState.{SessionState};
+ghost use Rattle.spk_run.specs.Session.{new_state};
+ghost use Rattle.spk_run.specs.Plain.{cause_of_fault, line_done, line_obeyed, arrival_obeyed, next_obeyed, commands_obeyed};
 ghost use Rattle.spk_run.specs.Troubles.{stop_of};
-ghost use Rattle.spk_run.specs.Passing.{passed_to, IsPassed};
+ghost use Rattle.spk_run.specs.Passing.{passed_to, IsStep, IsPassed, IsOneTooMany};
 
 use crate::answer::{Cause, Ending};
-use crate::commands::obey_words;
-use crate::options::Options;
-use crate::output::{log, refuse};
-use crate::session::{Session, Step};
-use crate::trouble::Trouble;
+use crate::commands::{Step, end, obey_words};
+use crate::output::{echo, refuse};
+use crate::session::Session;
+use crate::trouble::Fault;
+use spk_cmds::Options;
 use spk_script::{Arrival, LineFault, Machine, Script};
 use spk_world::World;
 use std::alloc::Global;
@@ -51,17 +54,16 @@ fn refuse_fault<W: World>(
     options: &Options,
     number: u32,
     fault: LineFault,
-) -> Result<Step, Trouble>
-    ensures wrote { (plain : Judged (LineStep × State)) (state : State) (session : Session) → Answers plain (Err fault) →
+) -> Result<Step, Fault>
+    ensures wrote { (plain : Judged (LineStep × State)) (state : State) (session : SessionState) → Answers plain (Err fault) →
         Wrote (stop_of options.now) (W.told world.old) (W.told world.new) (W.faults world.old) (W.faults world.new)
-        (line_done options.now.log number session plain) (passed_to state result) }
-    ensures step { IfOk result (IsCommandStep 0) }
+        (line_done options.now.log number session plain) (passed_to state session result) }
+    ensures step { IfOk result IsStep }
 {
-    let Some(cause) = cause_of(fault) else {
-        return Err(Trouble::Memory);
-    };
-    let ending = refuse(alloc, world, options, number, cause)?;
-    Ok(Step::Ends(ending))
+    match cause_of(fault) {
+        Some(cause) => end(alloc, world, options, number, cause),
+        None => Err(Fault::Memory),
+    }
 }
 
 /// Goes on with what the machine has made of the line with this number.
@@ -70,17 +72,18 @@ fn obey_step<W: World>(
     world: &mut W,
     options: &Options,
     number: u32,
-    session: Session,
+    session: &mut Session,
     step: Result<spk_script::Step, LineFault>,
-) -> Result<Step, Trouble>
-    requires { session.obeyed < 2 ^ 32 - 1 }
+) -> Result<Step, Fault>
+    requires { session.old.state.log ≡ options.now.log }
     ensures wrote { (plain : Judged (LineStep × State)) (state : State) → Answers plain (read_to state step) →
         Wrote (stop_of options.now) (W.told world.old) (W.told world.new) (W.faults world.old) (W.faults world.new)
-        (line_done options.now.log number session plain) (passed_to state result) }
-    ensures step { IfOk result (IsCommandStep (session.obeyed + 1)) }
+        (line_done options.now.log number session.old.state plain) (passed_to state session.new.state result) }
+    ensures step { IfOk result IsStep }
+    ensures log { session.new.state.log ≡ session.old.state.log }
 {
     match step {
-        Ok(spk_script::Step::Own(_)) => Ok(Step::Goes(session)),
+        Ok(spk_script::Step::Own(_)) => Ok(Step::Goes),
         Ok(spk_script::Step::Words(line, words)) => {
             obey_words(alloc, world, options, line, session, words.as_slice())
         }
@@ -94,21 +97,72 @@ fn obey_line<W: World>(
     world: &mut W,
     options: &Options,
     machine: &mut Machine,
-    session: Session,
+    session: &mut Session,
     number: u32,
-) -> Result<Step, Trouble>
+) -> Result<Step, Fault>
     requires stands { StandsAt machine.old.script (state_of machine.old.state) (Ok (Arrival.At number)) }
-    requires few { session.obeyed < 2 ^ 32 - 1 }
+    requires log { session.old.state.log ≡ options.now.log }
     ensures wrote { Wrote (stop_of options.now) (W.told world.old) (W.told world.new) (W.faults world.old) (W.faults world.new)
-        (line_obeyed options.now.log machine.old.script (state_of machine.old.state) session (line_at machine.old.script (state_of machine.old.state)))
-        (passed_to (state_of machine.new.state) result) }
-    ensures step { IfOk result (IsCommandStep (session.obeyed + 1)) }
+        (line_obeyed options.now.log machine.old.script (state_of machine.old.state) session.old.state (line_at machine.old.script (state_of machine.old.state)))
+        (passed_to (state_of machine.new.state) session.new.state result) }
+    ensures step { IfOk result IsStep }
+    ensures log { session.new.state.log ≡ session.old.state.log }
     ensures arrivals { machine.new.state.arrivals ≡ machine.old.state.arrivals }
     ensures script { machine.new.script ≡ machine.old.script }
 {
-    log(world, options, machine.script().raw(number))?;
+    echo(
+        world,
+        session.echo(),
+        &options.log,
+        machine.script().raw(number),
+    )?;
     let step = machine.next_command();
     obey_step(alloc, world, options, number, session, step)
+}
+
+/// Goes on where the machine has arrived: at a line, or at the end.
+fn obey_arrival<W: World>(
+    alloc: Global,
+    world: &mut W,
+    options: &Options,
+    machine: &mut Machine,
+    session: &mut Session,
+    arrival: Arrival,
+) -> Result<Step, Fault>
+    requires stands { StandsAt machine.old.script (state_of machine.old.state) (Ok arrival) }
+    requires log { session.old.state.log ≡ options.now.log }
+    ensures wrote { Wrote (stop_of options.now) (W.told world.old) (W.told world.new) (W.faults world.old) (W.faults world.new)
+        (arrival_obeyed options.now.log machine.old.script (state_of machine.old.state) session.old.state (Ok arrival))
+        (passed_to (state_of machine.new.state) session.new.state result) }
+    ensures step { (before : State) → CountsAt before (state_of machine.old.state) (Ok arrival) →
+        IfOk result (IsPassed before (state_of machine.new.state)) }
+    ensures log { session.new.state.log ≡ session.old.state.log }
+    ensures script { machine.new.script ≡ machine.old.script }
+{
+    match arrival {
+        Arrival::End => Ok(Step::Ends(Ending::Done)),
+        Arrival::At(number) => obey_line(alloc, world, options, machine, session, number),
+    }
+}
+
+/// Ends the script where the machine has arrived at a command once too often.
+fn refuse_arrival<W: World>(
+    alloc: Global,
+    world: &mut W,
+    options: &Options,
+    fault: LineFault,
+) -> Result<Step, Fault>
+    requires { IsOneTooMany fault }
+    ensures wrote { (lines : List LogicalLine) (state : State) (session : SessionState) →
+        Wrote (stop_of options.now) (W.told world.old) (W.told world.new) (W.faults world.old) (W.faults world.new)
+        (arrival_obeyed options.now.log lines state session (Err fault)) (passed_to state session result) }
+    ensures step { (before now : State) → IfOk result (IsPassed before now) }
+{
+    let LineFault::TooManyCommands(number) = fault else {
+        unreachable!()
+    };
+    let ending = refuse(alloc, world, options, number, Cause::TooManyCommands)?;
+    Ok(Step::Ends(ending))
 }
 
 /// Obeys the next command, where there is one.
@@ -117,22 +171,19 @@ fn obey_next<W: World>(
     world: &mut W,
     options: &Options,
     machine: &mut Machine,
-    session: Session,
-) -> Result<Step, Trouble>
-    requires { session.obeyed < 2 ^ 32 - 1 }
+    session: &mut Session,
+) -> Result<Step, Fault>
+    requires { session.old.state.log ≡ options.now.log }
     ensures wrote { Wrote (stop_of options.now) (W.told world.old) (W.told world.new) (W.faults world.old) (W.faults world.new)
-        (next_obeyed options.now.log machine.old.script (state_of machine.old.state) session) (passed_to (state_of machine.new.state) result) }
-    ensures step { IfOk result (IsPassed (state_of machine.old.state) (state_of machine.new.state) (session.obeyed + 1)) }
+        (next_obeyed options.now.log machine.old.script (state_of machine.old.state) session.old.state)
+        (passed_to (state_of machine.new.state) session.new.state result) }
+    ensures step { IfOk result (IsPassed (state_of machine.old.state) (state_of machine.new.state)) }
+    ensures log { session.new.state.log ≡ session.old.state.log }
     ensures script { machine.new.script ≡ machine.old.script }
 {
     match machine.next_line() {
-        Ok(Arrival::End) => Ok(Step::Ends(Ending::Done)),
-        Ok(Arrival::At(number)) => obey_line(alloc, world, options, machine, session, number),
-        Err(LineFault::TooManyCommands(number)) => {
-            let ending = refuse(alloc, world, options, number, Cause::TooManyCommands)?;
-            Ok(Step::Ends(ending))
-        }
-        Err(_) => unreachable!(),
+        Ok(arrival) => obey_arrival(alloc, world, options, machine, session, arrival),
+        Err(fault) => refuse_arrival(alloc, world, options, fault),
     }
 }
 
@@ -142,16 +193,16 @@ pub fn run_script<W: World>(
     world: &mut W,
     options: &Options,
     script: Script,
-) -> Result<Ending, Trouble>
+) -> Result<Ending, Fault>
     ensures wrote { Wrote (stop_of options.now) (W.told world.old) (W.told world.new) (W.faults world.old) (W.faults world.new)
-        (commands_obeyed 1000001 options.now.log script new_state new_session) result }
+        (commands_obeyed 1000001 options.now.log script (with_settings new_machine options.now.vars) (new_state options.now)) result }
     ensures content { IfOk result IsOfContent }
 {
-    let mut machine = Machine::new(alloc, script, &[])?;
-    let mut session = Session::new(alloc);
+    let mut machine = Machine::new(alloc, script, options.vars.as_slice())?;
+    let mut session = Session::new(alloc, options)?;
     loop {
-        match obey_next(alloc, world, options, &mut machine, session)? {
-            Step::Goes(next) => session = next,
+        match obey_next(alloc, world, options, &mut machine, &mut session)? {
+            Step::Goes => {}
             Step::Ends(ending) => return Ok(ending),
         }
     }

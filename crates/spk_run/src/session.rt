@@ -1,154 +1,171 @@
-//! The session: what the commands of a script have set.
+//! The session: it obeys the commands of a script, one after another.
 
-ghost use Rattle.std.specs.Prelude.{◌≡◌, ◌+◌, ◌-◌, ◌^◌, ◌<◌, ◌≤◌, IfOk};
+ghost use Rattle.std.specs.Prelude.{◌≡◌, ◌++◌, ◌∷◌, ◌+◌, ◌^◌, ◌<◌, ◌≤◌, [], None, vec_capacity, IfOk, IfErr, IfSome};
+ghost use Rattle.spk_cmds.specs.Ranges.{InRanges};
 ghost use Rattle.spk_world.specs.Effects.{Wrote};
-ghost use Rattle.spk_run.specs.Commands.{new_session, sites_in, with_box, set_by, counted, obeyed_by};
-ghost use Rattle.spk_run.specs.Troubles.{stop_of};
+ghost use Rattle.spk_run.specs.Session.{new_state, cause, ran_on, done_by, obeyed};
+ghost use Rattle.spk_run.specs.Troubles.{trouble_stop, obeyed_to, done_to, RefusedFor, Unwritten, Unchanged, IsDone, NamesLog};
+ghost use Rattle.spk_run.specs.Turn.{propensities_of};
 
-use crate::answer::Ending;
-use crate::form::Form;
-use crate::numbers::Seed;
-use crate::options::Options;
-use crate::run::run;
-use crate::sites::{Sites, Values};
+use crate::output::{log_copy, tell};
+use crate::run::{RunRoom, RunTimes, run};
+use crate::state::{Domain, SessionState, ticks_of};
 use crate::trouble::Trouble;
-use spk_lattice::Lattice;
-use spk_num::stream::Stream;
-use spk_num::style::Style;
+use spk_cmds::{Command, Echo, Options};
+use spk_num::OutOfMemory;
+use spk_num::text::Text;
 use spk_world::World;
 use std::alloc::{AllocError, Global};
 
-/// What the commands so far have set.
+/// A session of the simulator: what the commands so far have set and made.
+///
+/// All ranks run in this thread. After a failed write the session is of no more use.
 #[derive(Debug, Drop)]
 pub struct Session {
-    /// How many commands were obeyed.
-    pub obeyed: u32,
-    pub seed: Seed,
-    /// Cells of the region.
-    pub cells: u32,
-    /// The lattice, once its box is made.
-    pub lattice: Option<Lattice>,
-    /// The sites, none before they are made, and the rank's stream, which starts with the box.
-    pub sites: Sites,
-    /// Ticks from one line of statistics to the next, and 0 where only the first and the last are written.
-    pub delta: u64,
+    alloc: Global,
+    state: SessionState,
 }
 
-/// What stands behind a line: the session with which the script goes on, or its end.
-#[derive(Debug, Drop)]
-pub enum Step {
-    Goes(Session),
-    Ends(Ending),
+/// A text with a line feed behind it.
+fn with_line_feed(alloc: Global, text: &[u8]) -> Result<Vec<u8>, AllocError>
+    ensures { IfOk result (λ line. line.items ≡ text.now ++ 10 ∷ []) }
+{
+    let mut line = Vec::with_capacity(alloc, text.len().saturating_add(1))?;
+    line.extend_from_slice(text)?;
+    line.push(b'\n')?;
+    Ok(line)
 }
 
-/// The number of the stream of the first `set` behind a seed.
-const SET_STREAM: u64 = 4097;
+impl SessionState {
+    /// Prints a text to the screen, and then to the log.
+    fn print<W: World>(&self, alloc: Global, text: &Text, world: &mut W) -> Result<(), Trouble>
+        ensures wrote { Wrote trouble_stop (W.told world.old) (W.told world.new) (W.faults world.old) (W.faults world.new)
+            (done_by self.now (Command.Print text.now)) (done_to self.now result) }
+        ensures unwritten { Unwritten (W.told world.old) (W.told world.new) result }
+        ensures done { IsDone self.now.log result }
+    {
+        let line = with_line_feed(alloc, text.as_bytes())?;
+        let log = log_copy(alloc, &self.log)?;
+        match tell(world, &log, &line) {
+            Ok(()) => Ok(()),
+            Err(trouble) => Err(Trouble::WriteFault(trouble.target(log))),
+        }
+    }
+
+    /// Runs the box with this room for so many ticks.
+    fn run_with<W: World>(
+        &mut self,
+        mut room: RunRoom,
+        length: u64,
+        world: &mut W,
+    ) -> Result<(), Trouble>
+        requires line { 128 ≤ vec_capacity room.line }
+        requires afresh { IfSome self.old.domain (λ domain. room.propensities ≡ propensities_of domain.sites.values) }
+        requires fits { IfSome self.old.domain (λ domain. domain.time + length < 2 ^ 64) }
+        requires log { room.log ≡ self.old.log }
+        ensures wrote { Wrote trouble_stop (W.told world.old) (W.told world.new) (W.faults world.old) (W.faults world.new)
+            (ran_on self.old length self.old.domain) (done_to self.new result) }
+        ensures unwritten { Unwritten (W.told world.old) (W.told world.new) result }
+        ensures done { IsDone self.old.log result }
+        ensures log { self.new.log ≡ self.old.log }
+    {
+        let Some(domain) = self.domain.take() else {
+            return Ok(());
+        };
+        let Domain {
+            lattice,
+            time,
+            sites,
+        } = domain;
+        let times = RunTimes {
+            start: time,
+            length,
+            delta: self.delta,
+        };
+        match run(world, &mut room, times, sites) {
+            Ok(sites) => {
+                self.domain = Some(Domain {
+                    lattice,
+                    time: time + length,
+                    sites,
+                });
+                Ok(())
+            }
+            Err(trouble) => Err(Trouble::WriteFault(trouble.target(room.log))),
+        }
+    }
+
+    /// Runs for so many ticks. Memory is taken before the first write.
+    fn run<W: World>(&mut self, alloc: Global, length: u64, world: &mut W) -> Result<(), Trouble>
+        requires { IfSome self.old.domain (λ domain. domain.time + length < 2 ^ 64) }
+        ensures wrote { Wrote trouble_stop (W.told world.old) (W.told world.new) (W.faults world.old) (W.faults world.new)
+            (ran_on self.old length self.old.domain) (done_to self.new result) }
+        ensures unwritten { Unwritten (W.told world.old) (W.told world.new) result }
+        ensures done { IsDone self.old.log result }
+        ensures log { self.new.log ≡ self.old.log }
+    {
+        let Some(domain) = &self.domain else {
+            return Ok(());
+        };
+        let room = RunRoom::new(alloc, &domain.sites.values, &self.log)?;
+        self.run_with(room, length, world)
+    }
+
+    /// Obeys a command that isn't refused.
+    fn done<W: World>(
+        &mut self,
+        alloc: Global,
+        command: &Command,
+        world: &mut W,
+    ) -> Result<(), Trouble>
+        requires ranges { InRanges command.now }
+        requires free { cause self.old command.now ≡ None }
+        ensures wrote { Wrote trouble_stop (W.told world.old) (W.told world.new) (W.faults world.old) (W.faults world.new)
+            (done_by self.old command.now) (done_to self.new result) }
+        ensures unwritten { Unwritten (W.told world.old) (W.told world.new) result }
+        ensures done { IsDone self.old.log result }
+        ensures log { self.new.log ≡ self.old.log }
+    {
+        match command {
+            Command::Run { length } => self.run(alloc, ticks_of(*length), world),
+            Command::Print { text } => self.print(alloc, text, world),
+            _ => Ok(self.set(alloc, command)?),
+        }
+    }
+}
 
 impl Session {
     /// The session before the first line of a script.
-    pub fn new(alloc: Global) -> Session
-        ensures { result ≡ new_session }
+    pub fn new(alloc: Global, options: &Options) -> Result<Session, OutOfMemory>
+        ensures { IfOk result (λ session. session.state ≡ new_state options.now) }
     {
-        Session {
-            obeyed: 0,
-            seed: Seed::new(1),
-            cells: 0,
-            lattice: None,
-            sites: Sites {
-                values: Values::new(alloc),
-                stream: Stream::of_state(1).unwrap(),
-                accepted: 0,
-            },
-            delta: 0,
+        let state = SessionState::new(alloc, options)?;
+        Ok(Session { alloc, state })
+    }
+
+    /// The style in which the lines of commands are echoed.
+    pub(crate) fn echo(&self) -> Echo
+        ensures { result ≡ self.now.state.echo }
+    {
+        self.state.echo
+    }
+
+    /// Obeys a command, or refuses it: of several causes it is the one with the least number.
+    ///
+    /// All memory is taken before the first write. A command that is refused has changed and written nothing.
+    pub fn obey<W: World>(&mut self, command: &Command, world: &mut W) -> Result<(), Trouble>
+        requires { InRanges command.now }
+        ensures wrote { Wrote trouble_stop (W.told world.old) (W.told world.new) (W.faults world.old) (W.faults world.new)
+            (obeyed self.old.state command.now) (obeyed_to self.new.state result) }
+        ensures refused { RefusedFor (cause self.old.state command.now) result }
+        ensures unwritten { Unwritten (W.told world.old) (W.told world.new) result }
+        ensures unchanged { Unchanged self.old.state self.new.state result }
+        ensures names { IfErr result (NamesLog self.old.state.log) }
+        ensures log { self.new.state.log ≡ self.old.state.log }
+    {
+        if let Some(cause) = self.state.cause(self.alloc, command)? {
+            return Err(Trouble::Refused(cause));
         }
-    }
-
-    /// How many sites the lattice has, 0 where there is none yet.
-    fn site_count(&self) -> u32
-        ensures count { result ≡ sites_in self.now.lattice }
-        ensures limit { result ≤ 4194304 }
-    {
-        match &self.lattice {
-            Some(lattice) => lattice.sites(),
-            None => 0,
-        }
-    }
-
-    /// The session with its box: the lattice is made, and the rank's stream starts.
-    fn with_box(mut self) -> Session
-        ensures { result ≡ with_box self }
-    {
-        self.lattice = Lattice::new(Style::Line2, self.cells, 1, 1).ok();
-        self.sites.stream = self.seed.stream(0);
-        self.sites.accepted = 0;
-        self
-    }
-
-    /// The session after a command that runs nothing.
-    fn set(mut self, alloc: Global, form: Form) -> Result<Session, AllocError>
-        ensures { IfOk result (λ next. next ≡ set_by form self) }
-    {
-        match form {
-            Form::Seed(seed) => self.seed = seed,
-            Form::Region(cells) => self.cells = cells,
-            Form::CreateBox => return Ok(self.with_box()),
-            Form::CreateSites => self.sites.values = Values::filled(alloc, self.site_count(), 1)?,
-            Form::SetValue(value) => self.sites.values.set_all(value),
-            Form::SetRange(range) => {
-                let mut stream = self.seed.stream(SET_STREAM);
-                self.sites
-                    .values
-                    .draw(range.low(), range.high(), &mut stream);
-            }
-            Form::Stats(delta) => self.delta = delta,
-            _ => {}
-        }
-        Ok(self)
-    }
-
-    /// The session after one more command.
-    fn counted(mut self) -> Session
-        requires { self.obeyed < 2 ^ 32 - 1 }
-        ensures { result ≡ counted self }
-    {
-        self.obeyed += 1;
-        self
-    }
-
-    /// Obeys the command that is the next one.
-    pub fn obey<W: World>(
-        self,
-        alloc: Global,
-        world: &mut W,
-        options: &Options,
-        form: Form,
-    ) -> Result<Session, Trouble>
-        requires { self.obeyed < 2 ^ 32 - 1 }
-        ensures wrote { Wrote (stop_of options.now) (W.told world.old) (W.told world.new) (W.faults world.old) (W.faults world.new)
-            (obeyed_by options.now.log form self) result }
-        ensures one_more { IfOk result (λ next. next.obeyed ≡ self.obeyed + 1) }
-    {
-        if let Form::Run(length) = form {
-            return self.run(alloc, world, options, length);
-        }
-        let next = self.set(alloc, form)?;
-        Ok(next.counted())
-    }
-
-    /// Runs for so many ticks.
-    fn run<W: World>(
-        mut self,
-        alloc: Global,
-        world: &mut W,
-        options: &Options,
-        length: u64,
-    ) -> Result<Session, Trouble>
-        requires { self.obeyed < 2 ^ 32 - 1 }
-        ensures wrote { Wrote (stop_of options.now) (W.told world.old) (W.told world.new) (W.faults world.old) (W.faults world.new)
-            (obeyed_by options.now.log (Form.Run length) self) result }
-        ensures one_more { IfOk result (λ next. next.obeyed ≡ self.obeyed + 1) }
-    {
-        self.sites = run(alloc, world, options, self.delta, length, self.sites)?;
-        Ok(self.counted())
+        self.state.done(self.alloc, command, world)
     }
 }

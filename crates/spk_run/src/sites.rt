@@ -1,9 +1,12 @@
 //! The sites of a rank: their values, the rank's stream, and how many events were accepted.
 
-ghost use Rattle.std.specs.Prelude.{◌≡◌, ◌+◌, ◌-◌, ◌<◌, ◌≤◌, [], length, replicate, slice_index, slice_set, IfOk};
+ghost use Rattle.std.specs.Prelude.{◌≡◌, ◌+◌, ◌-◌, ◌<◌, ◌≤◌, not, [], length, position, replicate, slice_index, slice_set, IfOk};
 ghost use Rattle.spk_num.specs.Draws.{after_draws};
+ghost use Rattle.spk_cmds.specs.Ranges.{SetInRanges};
+ghost use Rattle.spk_run.specs.Session.{is_spin, set_values};
 ghost use Rattle.spk_run.specs.Turn.{drawn};
 
+use spk_cmds::SetValue;
 use spk_num::stream::Stream;
 use std::alloc::{AllocError, Global};
 use std::marker::Model;
@@ -30,6 +33,13 @@ pub struct Sites {
     pub values: Values,
     pub stream: Stream,
     pub accepted: u64,
+}
+
+/// Whether an Ising site can have this value.
+fn is_spin(value: u32) -> bool
+    ensures { result ≡ is_spin value }
+{
+    value == 1 || value == 2
 }
 
 impl Values {
@@ -75,6 +85,13 @@ impl Values {
         self.items[place] = value;
     }
 
+    /// The place of the first site whose value is neither 1 nor 2.
+    pub fn first_other(&self) -> Option<usize>
+        ensures { result ≡ position (λ value. not (is_spin value)) self.now }
+    {
+        self.items.iter().position(|value| !is_spin(*value))
+    }
+
     /// Gives each site this value.
     pub fn set_all(&mut self, value: u32)
         ensures { self.new ≡ replicate (length self.old) value }
@@ -94,6 +111,20 @@ impl Values {
         let choices = u64::from(high - low) + 1;
         for item in self.items.iter_mut() {
             *item = low + stream.below(choices) as u32;
+        }
+    }
+}
+
+impl Values {
+    /// Gives the sites values as a `set` command does. Drawn ones come from this stream.
+    pub fn give(&mut self, value: SetValue, mut stream: Stream)
+        requires { SetInRanges value }
+        ensures { self.new ≡ set_values stream value self.old }
+    {
+        match value {
+            SetValue::Value(value) => self.set_all(value),
+            SetValue::Range(low, high) => self.draw(low, high, &mut stream),
+            SetValue::Unique => {}
         }
     }
 }

@@ -1,11 +1,16 @@
 //! Tests of the top call over a world in memory.
 
+mod cases;
+mod command_lines;
+mod command_vectors;
 mod example;
 mod faults;
 mod language;
 mod language_vectors;
 mod plain_rule;
 mod refusals;
+mod runs;
+mod sessions;
 mod vectors;
 
 use crate::{Answer, simulate_alone, status};
@@ -76,15 +81,17 @@ impl Ended {
     }
 }
 
-/// Runs the program with these words in a world with this script, where these calls fail.
-fn simulated(
+/// Runs the program with these words in a world with these files, where these calls fail.
+fn ran(
     alloc: Global,
     words: &[&str],
-    script: &[u8],
+    files: &[(&str, &[u8])],
     fail_at: &[Fail],
 ) -> Result<Ended, AllocError> {
     let mut world = MemWorld::new(alloc);
-    world.put_file(SCRIPT, script)?;
+    for file in files {
+        world.put_file(file.0, file.1)?;
+    }
     world.fail_at.extend_from_slice(fail_at)?;
     let mut line = Vec::new(alloc);
     for word in words {
@@ -92,6 +99,16 @@ fn simulated(
     }
     let answer = simulate_alone(alloc, &line, &mut world);
     Ok(Ended { world, answer })
+}
+
+/// Runs the program with these words in a world with this script, where these calls fail.
+fn simulated(
+    alloc: Global,
+    words: &[&str],
+    script: &[u8],
+    fail_at: &[Fail],
+) -> Result<Ended, AllocError> {
+    ran(alloc, words, &[(SCRIPT, script)], fail_at)
 }
 
 /// Runs a script, with a log.

@@ -28,7 +28,7 @@ const SAID: [(&[u8], u8, &str); 12] = [
     (
         b"print a\n\"\"\n",
         1,
-        "a\nERROR: line 2: (206) not built yet \n",
+        "a\nERROR: line 2: (201) unknown command \n",
     ),
     (b"print ${", 1, "ERROR: line 1: (113) no variable \n"),
     (

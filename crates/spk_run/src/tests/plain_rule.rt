@@ -74,7 +74,7 @@ fn next(draw: u64) -> u64 {
 }
 
 /// What the stream with this number has drawn last when it has started.
-fn start(seed: u64, number: u64) -> u64 {
+pub fn start(seed: u64, number: u64) -> u64 {
     let offset = number.saturating_add(1).saturating_mul(100_003);
     let mut draw = 1 + seed.saturating_add(offset) % (MODULUS - 1);
     for _ in 0..16 {
@@ -91,16 +91,17 @@ fn below_two(first: u64, second: u64, total: u64) -> u128 {
     pair.saturating_mul(u128::from(total)) / (values * values)
 }
 
-/// The sites of a ring, each with the value 1 or 2.
-fn drawn(
+/// The values that the `set` command with this number behind its seed draws for the sites of a ring.
+pub fn drawn(
     alloc: Global,
     seed: u64,
+    number: u64,
     sites: u32,
     low: u64,
     high: u64,
 ) -> Result<Vec<u64>, AllocError> {
     let choices = high.saturating_sub(low).saturating_add(1);
-    let mut draw = start(seed, 4097);
+    let mut draw = start(seed, number.saturating_add(4096));
     let mut values = Vec::new(alloc);
     for _ in 0..sites {
         draw = next(draw);
@@ -164,10 +165,10 @@ fn place_of(weights: &[u64], target: u128) -> usize {
 
 /// The sites, the last draw of the rank's stream, and how many events there were.
 #[derive(Drop)]
-struct Ring {
-    values: Vec<u64>,
-    draw: u64,
-    events: u64,
+pub struct Ring {
+    pub values: Vec<u64>,
+    pub draw: u64,
+    pub events: u64,
 }
 
 impl Ring {
@@ -219,31 +220,48 @@ fn put_statistics(
     text.push_str(line.as_str())
 }
 
-/// What a run says: a line at its start, behind each cycle that reaches the next time of the statistics, and at its end.
-fn screen_of(
-    rt: &impl Abort,
-    alloc: Global,
-    mut ring: Ring,
-    delta: u64,
-    length: u64,
-) -> Result<String, TestFailed> {
-    let mut text = String::from_str(alloc, "Time Naccept Nreject Nsweeps\n")?;
-    put_statistics(alloc, &mut text, 0, 0)?;
-    let mut next = delta;
-    let mut time = 0u64;
-    for _ in 0..length.div_ceil(CYCLE) {
-        let end = time.saturating_add(CYCLE).min(length);
-        ring.cycle(rt, alloc, end.saturating_sub(time))?;
-        time = end;
-        let reached = delta > 0 && time >= next;
-        if reached || time == length {
-            put_statistics(alloc, &mut text, time, ring.events)?;
-        }
-        if reached {
-            next = (time / delta).saturating_add(1).saturating_mul(delta);
-        }
+/// When a run starts, the interval of its statistics, and its length, all in ticks.
+#[derive(Clone, Copy)]
+pub struct Span {
+    pub start: u64,
+    pub delta: u64,
+    pub length: u64,
+}
+
+impl Ring {
+    /// The line of the statistics at this time.
+    fn put_line(&self, alloc: Global, text: &mut String, time: u64) -> Result<(), AllocError> {
+        put_statistics(alloc, text, time, self.events)
     }
-    Ok(text)
+
+    /// Appends what a run says: a line at its start, behind each cycle that reaches the next time of the statistics,
+    /// and at its end.
+    pub fn put_run(
+        &mut self,
+        rt: &impl Abort,
+        alloc: Global,
+        text: &mut String,
+        span: Span,
+    ) -> Result<(), TestFailed> {
+        text.push_str("Time Naccept Nreject Nsweeps\n")?;
+        self.put_line(alloc, text, span.start)?;
+        let delta = span.delta;
+        let mut next = delta;
+        let mut time = 0u64;
+        for _ in 0..span.length.div_ceil(CYCLE) {
+            let end = time.saturating_add(CYCLE).min(span.length);
+            self.cycle(rt, alloc, end.saturating_sub(time))?;
+            time = end;
+            let reached = delta > 0 && time >= next;
+            if reached || time == span.length {
+                self.put_line(alloc, text, span.start.saturating_add(time))?;
+            }
+            if reached {
+                next = (time / delta).saturating_add(1).saturating_mul(delta);
+            }
+        }
+        Ok(())
+    }
 }
 
 /// The script of a run of sites with drawn values.
@@ -265,18 +283,37 @@ fn script_of(alloc: Global, seed: u32, sites: u32, times: &Times) -> Result<Stri
     )
 }
 
+/// What a run of sites with drawn values says.
+fn screen_of(
+    rt: &impl Abort,
+    alloc: Global,
+    seed: u32,
+    sites: u32,
+    times: &Times,
+) -> Result<String, TestFailed> {
+    let seed = u64::from(seed);
+    let mut ring = Ring {
+        values: drawn(alloc, seed, 1, sites, 1, 2)?,
+        draw: start(seed, 0),
+        events: 0,
+    };
+    let span = Span {
+        start: 0,
+        delta: times.delta,
+        length: times.length,
+    };
+    let mut screen = String::new(alloc);
+    ring.put_run(rt, alloc, &mut screen, span)?;
+    Ok(screen)
+}
+
 #[test]
 fn runs_by_the_plain_rule(rt: HostRuntime) -> Result<(), TestFailed> {
     let alloc = rt.alloc();
     for seed in [1, 77, 12345, 98470, 2_147_483_646] {
         for sites in [3, 4, 5, 11, 40] {
             for times in &TIMES {
-                let ring = Ring {
-                    values: drawn(alloc, u64::from(seed), sites, 1, 2)?,
-                    draw: start(u64::from(seed), 0),
-                    events: 0,
-                };
-                let screen = screen_of(&rt, alloc, ring, times.delta, times.length)?;
+                let screen = screen_of(&rt, alloc, seed, sites, times)?;
                 let script = script_of(alloc, seed, sites, times)?;
                 let ended = unlogged(alloc, script.as_bytes())?;
                 ended.expect(&rt, 0, screen.as_str(), None, script.as_str());

@@ -1,8 +1,54 @@
 //! Scripts that are refused, and those that just aren't.
 
+mod orders;
+mod states;
+
 use super::{EXAMPLE, EXAMPLE_SCREEN, front_of_example, joined, logged, put_line};
 use std::alloc::{AllocError, Global};
+use std::process::Abort;
 use std::test::Fail as TestFailed;
+
+/// A line that is refused: the lines before it, and the cause with its number.
+type Refused = (&'static [&'static str], &'static str, &'static str);
+
+/// The script with these lines.
+fn script_of(alloc: Global, before: &[&str], line: &str) -> Result<String, AllocError> {
+    let mut script = String::new(alloc);
+    for line in before {
+        put_line(&mut script, line)?;
+    }
+    put_line(&mut script, line)?;
+    Ok(script)
+}
+
+/// What is said of a script that is refused.
+fn refusal(alloc: Global, line: usize, cause: &str) -> Result<String, AllocError> {
+    format!(in alloc; "ERROR: line {line}: {cause}\n")
+}
+
+/// The line behind some others is refused for this cause. Nothing else is said, and the log has all the lines.
+fn expect_refusal(
+    rt: &impl Abort,
+    alloc: Global,
+    before: &[&str],
+    line: &str,
+    cause: &str,
+) -> Result<(), AllocError> {
+    let script = script_of(alloc, before, line)?;
+    let screen = refusal(alloc, before.len().saturating_add(1), cause)?;
+    let log = joined(alloc, script.as_str(), screen.as_str())?;
+    let ended = logged(alloc, script.as_bytes())?;
+    ended.expect(rt, 1, screen.as_str(), Some(log.as_str()), line);
+    Ok(())
+}
+
+/// Each line of a table is refused as the table says.
+fn expect_refusals(rt: &impl Abort, alloc: Global, table: &[Refused]) -> Result<(), AllocError> {
+    for (before, line, cause) in table {
+        expect_refusal(rt, alloc, before, line, cause)?;
+    }
+    Ok(())
+}
 
 /// The example with this line in place of its own.
 fn with_line(alloc: Global, place: usize, line: &str) -> Result<String, AllocError> {
@@ -14,109 +60,64 @@ fn with_line(alloc: Global, place: usize, line: &str) -> Result<String, AllocErr
     Ok(script)
 }
 
-/// What a script is refused for at a line: something that isn't built yet.
-fn refusal(alloc: Global, line: usize, what: &str) -> Result<String, AllocError> {
-    format!(in alloc; "ERROR: line {line}: (206) not built yet {what}\n")
-}
-
 /// Lines that are taken: which line of the example each takes the place of. What is said stays the same.
-const TAKEN: [(usize, &str); 19] = [
+const TAKEN: [(usize, &str); 50] = [
     (1, "seed 1"),
     (1, "seed 2147483646"),
+    (1, "seed 000000000000000001"),
     (1, "seed 1 # not & this"),
     (1, "\tseed\t 1 \r"),
+    (1, "seed 1\nseed 2"),
     (2, "app_style ising#"),
+    (2, "\"app_style\" \"ising\""),
     (3, "lattice line/2n 0.000001"),
     (3, "lattice line/2n 1000000"),
     (3, "lattice line/2n 1000000.000000"),
+    (3, "lattice line/2n .5"),
     (4, "region box block 0 3 0 1 0 1"),
     (4, "region box block 0 000010 0 1 0 1"),
+    (4, "region box block -0 10.000 0 1 0 1"),
+    (4, "region box block 0 10 -0.5 0.5 2 2"),
+    (4, "region box block 0 10 INF EDGE INF INF"),
+    (4, "region box block 0 10 EDGE -10000000 10000000 INF"),
+    (
+        4,
+        "region a block INF INF INF INF INF INF\nregion box block 0 10 0 1 0 1",
+    ),
+    (4, "boundary p p p\nregion box block 0 10 0 1 0 1"),
+    (
+        4,
+        "boundary p p p\nregion box block 0 4 0 1 0 1\nboundary p p p",
+    ),
+    (5, "create_box box\nregion box2 block 0.5 0.5 0 1 0 1"),
     (7, "set site value 2"),
     (7, "set site range 1 1"),
     (7, "set site range 2 2"),
+    (7, "set i1 value 1"),
+    (7, "set i1 range 2 2"),
+    (7, "set site value 00002"),
+    (7, "set site value 7\nset site value 2"),
+    (7, "set site value 4294967295\nset i1 value 1"),
     (8, "temperature 0"),
     (8, "temperature -0"),
+    (8, "temperature .0000000"),
+    (8, "seed 5"),
+    (8, "set site value 1"),
+    (8, "solve_style linear"),
+    (8, "stats 1000000000"),
+    (8, "echo log"),
+    (8, "label here"),
+    (8, "variable a index 1"),
+    (9, "stats 3\nsolve_style linear"),
+    (9, "solve_style linear\nsolve_style linear"),
     (10, "stats 0.5"),
     (10, "stats 0.999999"),
+    (10, "stats 0.000001"),
+    (10, "stats 1.0\ntemperature 0.0"),
     (11, "run 2"),
     (11, "run 2.000000"),
-];
-
-/// Lines that are refused: which line of the example each takes the place of, and what isn't built.
-const REFUSED: [(usize, &str, &str); 73] = [
-    (1, "print", "print"),
-    (1, "print 1 2", "print"),
-    (1, "seed 1 & 2", "seed"),
-    (1, "seed 0", "seed"),
-    (1, "seed 2147483647", "seed"),
-    (1, "seed -1", "seed"),
-    (1, "seed 1.0", "seed"),
-    (1, "seed x", "seed"),
-    (1, "seed", "seed"),
-    (1, "seed #1", "seed"),
-    (1, "seed 1 2", "seed"),
-    (1, "Seed 1", "Seed"),
-    (1, "seed1", "seed1"),
-    (1, "app_style ising", "app_style"),
-    (1, "run 1.0", "run"),
-    (2, "seed 1", "seed"),
-    (2, "app_style potts 3", "app_style"),
-    (2, "app_style potts", "app_style"),
-    (2, "app_style", "app_style"),
-    (2, "app_style ising 2", "app_style"),
-    (2, "lattice line/2n 1.0", "lattice"),
-    (3, "lattice line/2n 0", "lattice"),
-    (3, "lattice line/2n 0.0000001", "lattice"),
-    (3, "lattice line/2n 1000000.000001", "lattice"),
-    (3, "lattice line/2n -1", "lattice"),
-    (3, "lattice sq/4n 1.0", "lattice"),
-    (3, "lattice line/2n", "lattice"),
-    (3, "create_box box", "create_box"),
-    (4, "region box block 0 2 0 1 0 1", "region"),
-    (4, "region box block 0 4194305 0 1 0 1", "region"),
-    (4, "region box block 0 10.0 0 1 0 1", "region"),
-    (4, "region box block 1 10 0 1 0 1", "region"),
-    (4, "region box block 0 10 0 2 0 1", "region"),
-    (4, "region box block 0 10 0 1 0", "region"),
-    (4, "region box sphere 0 10 0 1 0 1", "region"),
-    (4, "region other block 0 10 0 1 0 1", "region"),
-    (5, "create_box other", "create_box"),
-    (5, "create_sites box", "create_sites"),
-    (6, "create_box box", "create_box"),
-    (6, "create_sites other", "create_sites"),
-    (6, "set site value 1", "set"),
-    (7, "set site value 0", "set"),
-    (7, "set site value 3", "set"),
-    (7, "set site value 1 2", "set"),
-    (7, "set site range 2 1", "set"),
-    (7, "set site range 0 1", "set"),
-    (7, "set site range 1 3", "set"),
-    (7, "set site range 1", "set"),
-    (7, "set i1 value 1", "set"),
-    (7, "set i1 range 1 2", "set"),
-    (7, "set site", "set"),
-    (7, "temperature 0.0", "temperature"),
-    (8, "set site range 1 2", "set"),
-    (8, "temperature 0.1", "temperature"),
-    (8, "temperature 0.000001", "temperature"),
-    (8, "temperature -1", "temperature"),
-    (8, "temperature", "temperature"),
-    (9, "solve_style tree", "solve_style"),
-    (9, "solve_style linear 1", "solve_style"),
-    (9, "stats 1.0", "stats"),
-    (10, "stats -1", "stats"),
-    (10, "stats -0.000001", "stats"),
-    (10, "stats 1000000000.000001", "stats"),
-    (10, "stats", "stats"),
-    (10, "solve_style linear", "solve_style"),
-    (10, "run 2.0", "run"),
-    (11, "run 1000000000.000001", "run"),
-    (11, "run -1", "run"),
-    (11, "run x", "run"),
-    (11, "run", "run"),
-    (11, "run 1 upto", "run"),
-    (11, "stats 1.0", "stats"),
-    (11, "diag_style energy", "diag_style"),
+    (11, "run 2.00000000"),
+    (11, "run 0000000002."),
 ];
 
 #[test]
@@ -131,67 +132,105 @@ fn takes_lines(rt: HostRuntime) -> Result<(), TestFailed> {
     Ok(())
 }
 
-#[test]
-fn refuses_lines(rt: HostRuntime) -> Result<(), TestFailed> {
-    let alloc = rt.alloc();
-    for (place, line, what) in &REFUSED {
-        let script = with_line(alloc, *place, line)?;
-        let screen = refusal(alloc, *place, what)?;
-        let mut log = front_of_example(alloc, place.saturating_sub(1))?;
-        put_line(&mut log, line)?;
-        log.push_str(screen.as_str())?;
-        let ended = logged(alloc, script.as_bytes())?;
-        ended.expect(&rt, 1, screen.as_str(), Some(log.as_str()), line);
-    }
-    Ok(())
-}
-
-/// Scripts that are refused: the line at which each is, what isn't built, and what is echoed up to there.
-const COUNTED: [(&str, usize, &str, &str); 6] = [
-    ("seed", 1, "seed", "seed\n"),
-    ("\n\n\nseed", 4, "seed", "seed\n"),
-    ("\r\n \t\r\nfoo#bar\r\n", 3, "foo", "foo#bar\r\n"),
+/// Scripts that are refused: at which line each is, for which cause, and what is echoed up to there.
+const COUNTED: [(&str, usize, &str, &str); 9] = [
+    ("seed", 1, "(203) wrong number of words", "seed\n"),
+    ("\n\n\nseed", 4, "(203) wrong number of words", "seed\n"),
+    (
+        "\r\n \t\r\nfoo#bar\r\n",
+        3,
+        "(201) unknown command foo",
+        "foo#bar\r\n",
+    ),
     (
         "# one\n# two\nthree four\nfive\n",
         3,
-        "three",
+        "(201) unknown command three",
         "three four\n",
     ),
-    ("seed 1\n\n# note\nseed 1\n", 4, "seed", "seed 1\nseed 1\n"),
+    (
+        "seed 1\n\n# note\nseed 0\n",
+        4,
+        "(205) number out of range 0",
+        "seed 1\nseed 0\n",
+    ),
     (
         "# note\n\n \t\r\nseed\t1\r\napp_style ising # run 1\n\n\trun 1\r\nrun 2\n",
         7,
-        "run",
+        "(303) no lattice",
         "seed\t1\r\napp_style ising # run 1\n\trun 1\r\n",
+    ),
+    (
+        "seed 1\n\ncreate_box &\n\n a b\n",
+        3,
+        "(203) wrong number of words",
+        "seed 1\ncreate_box &\n\n",
+    ),
+    (
+        "create_box &\n# not &\nbox\n",
+        1,
+        "(203) wrong number of words",
+        "create_box &\n# not &\nbox\n",
+    ),
+    (
+        "label a\nnext a\n",
+        2,
+        "(113) no variable a",
+        "label a\nnext a\n",
     ),
 ];
 
 #[test]
 fn counts_lines(rt: HostRuntime) -> Result<(), TestFailed> {
     let alloc = rt.alloc();
-    for (script, line, what, echo) in &COUNTED {
-        let screen = refusal(alloc, *line, what)?;
+    for (script, line, cause, echo) in &COUNTED {
+        let screen = refusal(alloc, *line, cause)?;
         let log = joined(alloc, echo, screen.as_str())?;
         let ended = logged(alloc, script.as_bytes())?;
         ended.expect(&rt, 1, screen.as_str(), Some(log.as_str()), script);
     }
+    Ok(())
+}
 
+/// The log of the example with one line more, which is refused so.
+fn log_behind(alloc: Global, line: &str, refused: &str) -> Result<String, AllocError> {
+    let mut log = front_of_example(alloc, 11)?;
+    log.push_str(EXAMPLE_SCREEN)?;
+    put_line(&mut log, line)?;
+    log.push_str(refused)?;
+    Ok(log)
+}
+
+/// A line behind the example is refused for this cause, and what the run said stays.
+fn expect_refused_behind(
+    rt: &impl Abort,
+    alloc: Global,
+    line: &str,
+    cause: &str,
+) -> Result<(), AllocError> {
     let mut script = front_of_example(alloc, 11)?;
-    let said = joined(alloc, script.as_str(), EXAMPLE_SCREEN)?;
-    put_line(&mut script, "run 1.0")?;
-    let refused = refusal(alloc, 12, "run")?;
+    script.push_str(line)?;
+    let refused = refusal(alloc, 12, cause)?;
     let screen = joined(alloc, EXAMPLE_SCREEN, refused.as_str())?;
-    let mut log = said;
-    put_line(&mut log, "run 1.0")?;
-    log.push_str(refused.as_str())?;
+    let log = log_behind(alloc, line, refused.as_str())?;
     let ended = logged(alloc, script.as_bytes())?;
-    ended.expect(
-        &rt,
-        1,
-        screen.as_str(),
-        Some(log.as_str()),
-        "a twelfth line",
-    );
+    ended.expect(rt, 1, screen.as_str(), Some(log.as_str()), line);
+    Ok(())
+}
+
+/// A line behind a run is refused as any other.
+#[test]
+fn refuses_behind_a_run(rt: HostRuntime) -> Result<(), TestFailed> {
+    for (line, cause) in [
+        ("run x", "(204) bad number x"),
+        ("create_box box", "(306) already made"),
+        ("create_sites box", "(306) already made"),
+        ("boundary p p p", "(306) already made"),
+        ("app_style ising", "(306) already made"),
+        ("run 1000000000.5", "(326) run too long"),
+    ] {
+        expect_refused_behind(&rt, rt.alloc(), line, cause)?;
+    }
     Ok(())
 }
 

@@ -1,5 +1,5 @@
 use Rattle.std.proofs.Common.{append_assoc}
-use Rattle.spk_run.specs.Commands.{statistics_text}
+use Rattle.spk_run.specs.Runs.{statistics_text}
 use Rattle.spk_run.proofs.run.set_statistics.Goals as goal
 
 pub returns-clause-text : goal.returns-clause-text

@@ -5,4 +5,4 @@ pub refuse_script-requires : goal.refuse_script-requires
 refuse_script-requires g c = not_too_long c.args.bytes.now _ c.requires c.in-Err.ensures.fault
 
 pub returns-in-Err-clause-wrote : goal.returns-in-Err-clause-wrote
-returns-in-Err-clause-wrote g c = c.refuse_script.ensures.wrote _ c.in-Err.ensures.fault
+returns-in-Err-clause-wrote g c = λ name. c.refuse_script.ensures.wrote _ c.in-Err.ensures.fault

@@ -1,11 +1,5 @@
-use Rattle.spk_run.proofs.Headline.{simulated_by, cause_by, simulated_nothing}
+use Rattle.spk_run.proofs.Headline.{complete_by}
 use Rattle.spk_run.proofs.simulate.simulate_alone.Goals as goal
 
-pub returns-in-Ok-clause-simulated : goal.returns-in-Ok-clause-simulated
-returns-in-Ok-clause-simulated g c = rw (c.in-Ok.ensures.ok, c.answer.ensures) (simulated_by _ _ _ _ _ _ _ c.obey_options-outcome.ensures.wrote)
-
-pub returns-in-Ok-clause-cause : goal.returns-in-Ok-clause-cause
-returns-in-Ok-clause-cause g c = rw c.answer.ensures (cause_by _ _ _ _ _ _ _ c.obey_options-outcome.ensures.wrote)
-
-pub returns-in-Err-Memory-clause-simulated : goal.returns-in-Err-Memory-clause-simulated
-returns-in-Err-Memory-clause-simulated g c = simulated_nothing _ _
+pub returns-clause-complete : goal.returns-clause-complete
+returns-clause-complete g c = λ none. complete_by _ _ _ _ _ _ c.run_words.ensures.simulated c.run_words.ensures.cause c.run_words.ensures.file_cause none
