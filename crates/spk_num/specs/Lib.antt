@@ -2,4 +2,5 @@ pub mod Decimal
 pub mod Draws
 pub mod Logarithm
 pub mod Names
+pub mod Results
 pub mod Whole
