@@ -81,7 +81,7 @@ impl Differences {
         self.compare(place, wanted.as_str(), came.as_str())
     }
 
-    /// Compares the bytes of files, which may be wanting.
+    /// Compares the bytes of files, which may be missing.
     pub fn compare_bytes(
         &mut self,
         name: &str,

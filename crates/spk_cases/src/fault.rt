@@ -14,7 +14,7 @@ pub enum Cause {
     OutsideText,
     #[error("this mark can't stand in this section")]
     WrongMark,
-    #[error("behind the mark stands neither a blank nor `*` and a number")]
+    #[error("after the mark stands neither a blank nor `*` and a number")]
     BadMark,
     #[error("an escape that there isn't")]
     BadEscape,

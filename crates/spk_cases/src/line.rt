@@ -31,11 +31,11 @@ pub enum Line<'a> {
     /// A line without a byte, or a comment.
     Empty,
     Text(TextLine),
-    /// A heading: its first word and what follows behind a blank.
+    /// A heading: its first word and what follows after a blank.
     Heading(&'a [u8], &'a [u8]),
 }
 
-/// What is behind a mark: a number of copies or none, and the text behind a blank.
+/// What is after a mark: a number of copies or none, and the text after a blank.
 fn counted(rest: &[u8]) -> Result<(u64, &[u8]), Cause> {
     match rest {
         [] => Ok((1, rest)),

@@ -43,7 +43,7 @@ fn byte_of(high: u8, low: u8) -> Option<u8> {
     Some(digit(high)? * 16 + digit(low)?)
 }
 
-/// The byte that an escape without its backslash stands for, and what is behind it.
+/// The byte that an escape without its backslash stands for, and what is after it.
 fn escape_of(escaped: &[u8]) -> Result<(u8, &[u8]), Cause> {
     match escaped {
         [b'\\', rest @ ..] => Ok((b'\\', rest)),
@@ -90,7 +90,7 @@ pub fn parted(text: &[u8], separator: u8) -> Option<(&[u8], &[u8])> {
     }
 }
 
-/// Appends the copies of the text in front of the next closing brace, as in `4000*z}`. The rest is what is behind it.
+/// Appends the copies of the text before the next closing brace, as in `4000*z}`. The rest is what is after it.
 fn put_copies<'a>(alloc: Global, bytes: &mut Vec<u8>, inner: &'a [u8]) -> Result<&'a [u8], Cause> {
     let (inside, rest) = parted(inner, b'}').ok_or(Cause::BadEscape)?;
     let (digits, text) = parted(inside, b'*').ok_or(Cause::BadEscape)?;

@@ -1,29 +1,37 @@
--- What may stand in the place of a word of a command. The kinds and their order of refusals are our own rules.
-use Rattle.std.specs.Prelude.{ℕ, Bool, true, false, ◌&&◌, ◌||◌, not, nat_le, int_lt, if◌then◌else◌, ℤ, pos, neg_ℤ, List, codes, is_some, Result, Ok, Err}
+-- What may stand in the place of a word of a command, and the value that such a word is. The kinds and their order of
+-- refusals are our own rules.
+use Rattle.std.specs.Prelude.{ℕ, Bool, true, false, ◌&&◌, ◌||◌, not, min, int_lt, if◌then◌else◌, ℤ, List, [], ◌∷◌, codes, Option, Some, None, is_some, Result, Ok, Err}
 use Rattle.std.specs.Option.{unwrap_or}
 use Rattle.std.specs.List.{list_any}
 use Rattle.std.specs.Str.{bytes_eq}
 use Rattle.spk_num.specs.Decimal.{millionths_of}
-use Rattle.spk_num.specs.Names.{is_name}
-use Rattle.spk_num.specs.Whole.{whole_of}
+use Rattle.spk_num.specs.Names.{is_name, is_file_name}
+use Rattle.spk_num.specs.Results.{◌>>=◌}
+use Rattle.spk_num.specs.Whole.{whole_of, whole_within}
+use Rattle.spk_num.specs.declared.decimal.Dec.{Dec}
 use Rattle.spk_num.specs.declared.decimal.DecFault.{DecFault}
 use Rattle.spk_num.specs.declared.decimal.DecFault.TheVariants.{TooLarge}
+use Rattle.spk_num.specs.declared.shape.Bound.TheVariants.{At, Open}
+use Rattle.spk_cmds.specs.declared.command.CommandFault.{CommandFault}
 use Rattle.spk_cmds.specs.declared.command.CommandFault.TheVariants.{UnknownStyle, BadNumber, OutOfRange, NotBuilt, BadName}
-use Rattle.spk_cmds.specs.Judging.{Judged}
+use Rattle.spk_cmds.specs.declared.value.Value.{Value}
+use Rattle.spk_cmds.specs.declared.value.Value.TheVariants as value
 
--- What may stand in the place of a word.
 pub data Kind : Type 0 where
   -- one of these words; those of the second list aren't built yet
   OneOf : List (List ℕ) → List (List ℕ) → Kind
   -- a whole number from one to another, both ends taken
   WholeNumber : ℕ → ℕ → Kind
+  -- a whole number in a range, which is at most the number that the next word is
+  WholeUpToNext : ℕ → ℕ → Kind
   -- a decimal number, in millionths, from one to another, both ends taken
-  DecimalNumber : ℕ → ℕ → Kind
-  -- a temperature from 0 to 1000000; one above 0 isn't built yet
-  TemperatureNumber : Kind
-  -- a bound of a region: it is open, or a decimal number from -10000000 to 10000000
-  BoundWord : Kind
+  DecimalNumber : ℤ → ℤ → Kind
+  -- a decimal number in a range, of which those above the third number aren't built yet
+  DecimalBuiltTo : ℤ → ℤ → ℤ → Kind
+  -- a bound of a region: it is open, or a decimal number in a range
+  BoundNumber : ℤ → ℤ → Kind
   NameWord : Kind
+  FileWord : Kind
   AnyWord : Kind
 
 abbrev pub is_among : List (List ℕ) → List ℕ → Bool
@@ -42,50 +50,74 @@ is_decimal word = is_decimal_by (millionths_of word)
 abbrev pub is_open : List ℕ → Bool
 is_open word = bytes_eq word (codes "INF") || bytes_eq word (codes "EDGE")
 
--- what a word of its kind is worth
-abbrev pub number : List ℕ → ℕ
-number word = unwrap_or (whole_of word) 0
-
-abbrev pub lies : ℤ → ℤ → Result ℤ DecFault → Bool
-lies low high (Ok millionths) = not (int_lt millionths low) && not (int_lt high millionths)
-lies low high (Err fault) = false
-
-abbrev pub is_zero_by : Result ℤ DecFault → Bool
-is_zero_by (Ok millionths) = not (int_lt (pos 0) millionths)
-is_zero_by (Err fault) = false
-
-abbrev pub one_of : List (List ℕ) → List (List ℕ) → List ℕ → Judged (Unit {0})
+-- a word of one list is accepted, one of another isn't built yet
+abbrev pub one_of : List (List ℕ) → List (List ℕ) → List ℕ → Result (Unit {0}) CommandFault
 one_of built unbuilt word =
     if is_among built word then Ok tt
     else (if is_among unbuilt word then Err (NotBuilt word)
     else Err (UnknownStyle word))
 
-abbrev pub number_if : Bool → List ℕ → Judged (Unit {0})
+abbrev pub number_if : Bool → List ℕ → Result (Unit {0}) CommandFault
 number_if form word = if form then Ok tt else Err (BadNumber word)
 
+abbrev pub name_if : Bool → List ℕ → Result (Unit {0}) CommandFault
+name_if form word = if form then Ok tt else Err (BadName word)
+
 -- a word has the form of its kind, whatever its number is
-abbrev pub formed : Kind → List ℕ → Judged (Unit {0})
+unfoldable pub formed : Kind → List ℕ → Result (Unit {0}) CommandFault
 formed (OneOf built unbuilt) word = one_of built unbuilt word
 formed (WholeNumber low high) word = number_if (is_some (whole_of word)) word
+formed (WholeUpToNext low high) word = number_if (is_some (whole_of word)) word
 formed (DecimalNumber low high) word = number_if (is_decimal word) word
-formed TemperatureNumber word = number_if (is_decimal word) word
-formed BoundWord word = number_if (is_open word || is_decimal word) word
-formed NameWord word = if is_name word then Ok tt else Err (BadName word)
+formed (DecimalBuiltTo low high built) word = number_if (is_decimal word) word
+formed (BoundNumber low high) word = number_if (is_open word || is_decimal word) word
+formed NameWord word = name_if (is_name word) word
+formed FileWord word = name_if (is_file_name word) word
 formed AnyWord word = Ok tt
 
-abbrev pub range_if : Bool → List ℕ → Judged (Unit {0})
-range_if inside word = if inside then Ok tt else Err (OutOfRange word)
+-- the number in a range that a word is
+abbrev pub whole_or_out : Option ℕ → List ℕ → Result Value CommandFault
+whole_or_out (Some number) word = Ok (value.Whole number)
+whole_or_out None word = Err (OutOfRange word)
 
-abbrev pub temperature_ranged : List ℕ → Judged (Unit {0})
-temperature_ranged word =
-    if not (lies (pos 0) (pos 1000000000000) (millionths_of word)) then Err (OutOfRange word)
-    else (if is_zero_by (millionths_of word) then Ok tt
-    else Err (NotBuilt word))
+abbrev pub whole_in : ℕ → ℕ → List ℕ → Result Value CommandFault
+whole_in low high word = whole_or_out (whole_within low high word) word
 
--- a word of this form is in the range of its kind
-abbrev pub ranged : Kind → List ℕ → Judged (Unit {0})
-ranged (WholeNumber low high) word = range_if (nat_le low (number word) && nat_le (number word) high) word
-ranged (DecimalNumber low high) word = range_if (lies (pos low) (pos high) (millionths_of word)) word
-ranged TemperatureNumber word = temperature_ranged word
-ranged BoundWord word = range_if (is_open word || lies (neg_ℤ (pos 10000000000000)) (pos 10000000000000) (millionths_of word)) word
-ranged kind word = Ok tt
+abbrev pub is_inside : ℤ → ℤ → ℤ → Bool
+is_inside low high z = not (int_lt z low) && not (int_lt high z)
+
+abbrev pub inside_or_out : ℤ → ℤ → Result ℤ DecFault → List ℕ → Result Dec CommandFault
+inside_or_out low high (Ok z) word = if is_inside low high z then Ok (record { millionths = z }) else Err (OutOfRange word)
+inside_or_out low high (Err fault) word = Err (OutOfRange word)
+
+unfoldable pub decimal_in : ℤ → ℤ → List ℕ → Result Dec CommandFault
+decimal_in low high word = inside_or_out low high (millionths_of word) word
+
+-- the number of the next word, where it is one
+abbrev pub next_number : List (List ℕ) → ℕ
+next_number [] = 0
+next_number (word ∷ words) = unwrap_or (whole_of word) 0
+
+unfoldable pub built_to : ℤ → List ℕ → Dec → Result Value CommandFault
+built_to most word d = if int_lt most d.millionths then Err (NotBuilt word) else Ok (value.Decimal d)
+
+abbrev pub bound_in : ℤ → ℤ → List ℕ → Result Value CommandFault
+bound_in low high word = if is_open word then Ok (value.Bound Open) else (decimal_in low high word >>= λ d. Ok (value.Bound (At d)))
+
+abbrev pub decimal_value : ℤ → ℤ → List ℕ → Result Value CommandFault
+decimal_value low high word = decimal_in low high word >>= λ d. Ok (value.Decimal d)
+
+abbrev pub decimal_built_in : ℤ → ℤ → ℤ → List ℕ → Result Value CommandFault
+decimal_built_in low high built word = decimal_in low high word >>= λ d. built_to built word d
+
+-- The value of a word that has the form of its kind, where its number is in the range. The words after it stand last.
+unfoldable pub valued : Kind → List ℕ → List (List ℕ) → Result Value CommandFault
+valued (WholeNumber low high) word words = whole_in low high word
+valued (WholeUpToNext low high) word words = whole_in low (min high (next_number words)) word
+valued (DecimalNumber low high) word words = decimal_value low high word
+valued (DecimalBuiltTo low high built) word words = decimal_built_in low high built word
+valued (BoundNumber low high) word words = bound_in low high word
+valued (OneOf built unbuilt) word words = Ok (value.Word word)
+valued NameWord word words = Ok (value.Word word)
+valued FileWord word words = Ok (value.Word word)
+valued AnyWord word words = Ok (value.Word word)

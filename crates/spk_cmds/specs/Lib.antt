@@ -1,9 +1,13 @@
 pub mod CommandLine
+pub mod Faults
+pub mod Forms
 pub mod Inputs
-pub mod Judging
 pub mod Kinds
+pub mod Makers
 pub mod Numbers
-pub mod Ranges
-pub mod Readings
 pub mod Table
-pub mod Takings
+pub mod TableViews
+pub mod Usages
+pub mod Values
+pub mod Views
+pub mod WellFormed

@@ -142,7 +142,7 @@ pub enum CommandFault {
     /// A later version will have this command or word.
     NotBuilt(Text),
     BadName(Text),
-    /// Memory is wanting.
+    /// There is no memory left.
     Memory,
 }
 

@@ -1,97 +1,153 @@
 //! The command that the words of a line make.
 
-ghost use Rattle.std.specs.Prelude.{◌≡◌, IfOk};
-ghost use Rattle.spk_cmds.specs.Judging.{Answers};
-ghost use Rattle.spk_cmds.specs.Kinds.{is_among};
-ghost use Rattle.spk_cmds.specs.Ranges.{InRanges};
-ghost use Rattle.spk_cmds.specs.Table.{command_read, command_by, row_found, later_rows, built_rows, unbuilt_commands};
+ghost use Rattle.std.specs.Prelude.{◌≡◌, IfOk, option_map};
+ghost use Rattle.spk_num.specs.Results.{IsPlainOrMemory};
+ghost use Rattle.spk_cmds.specs.Faults.{is_memory};
+ghost use Rattle.spk_cmds.specs.Table.{styled_found, decided_by, decided, form_of, row_found, form_found_by, form_found, read_by, named_command, command_read};
+ghost use Rattle.spk_cmds.specs.TableViews.{styles_seen, forms_seen, rows_seen, found_seen};
+ghost use Rattle.spk_cmds.specs.Views.{words_seen, form_seen};
+ghost use Rattle.spk_cmds.specs.WellFormed.{IsWellFormed};
 
 use crate::command::{Command, CommandFault};
-use crate::number_rows::{read_run, read_seed, read_stats, read_temperature};
-use crate::region_rows::read_region;
-use crate::set_rows::read_set;
-use crate::style_rows::{read_app, read_echo, read_lattice, read_solve};
-use crate::word_rows::{read_boundary, read_create_box, read_create_sites, read_print};
+use crate::form::{Form, Forms, Row, Styled};
+use crate::makers::made;
+use crate::reader::read_form;
+use crate::table::rows;
+use crate::words::is_among;
 use spk_num::text::Text;
 use std::alloc::Global;
 
-/// Whether a later version will have this command.
-fn is_unbuilt(name: &str) -> bool
-    ensures { result ≡ is_among unbuilt_commands name.now }
+/// The form of a deciding word.
+fn styled_found(styles: &[Styled], word: &str) -> Option<Form>
+    ensures { option_map form_seen result ≡ styled_found (styles_seen styles.now) word.now }
 {
-    matches!(
-        name,
-        "dimension"
-            | "processors"
-            | "read_sites"
-            | "write_restart"
-            | "read_restart"
-            | "sector"
-            | "sweep"
-            | "diag_style"
-            | "dump"
-            | "undump"
-    )
-}
-
-/// The command of one of the later rows of the table.
-fn later_row_of(alloc: Global, name: &Text, words: &[Text]) -> Result<Command, CommandFault>
-    ensures { Answers (row_found later_rows name.now words.now) result }
-{
-    match name.as_str() {
-        "set" => read_set(alloc, words),
-        "solve_style" => read_solve(alloc, words),
-        "temperature" => read_temperature(alloc, words),
-        "stats" => read_stats(alloc, words),
-        "run" => read_run(alloc, words),
-        "print" => read_print(alloc, words),
-        "echo" => read_echo(alloc, words),
-        _ => Err(CommandFault::UnknownCommand(Text::copy(alloc, name.as_str())?)),
+    match styles {
+        [styled, styles @ ..] => {
+            if word == styled.word {
+                Some(styled.form)
+            } else {
+                styled_found(styles, word)
+            }
+        }
+        [] => None,
     }
 }
 
-/// The command of the row that its name finds.
-fn row_of(alloc: Global, name: &Text, words: &[Text]) -> Result<Command, CommandFault>
-    ensures { Answers (row_found built_rows name.now words.now) result }
+/// The forms of the command with this name.
+fn row_found(rows: &[Row], name: &str) -> Option<Forms>
+    ensures { option_map forms_seen result ≡ row_found (rows_seen rows.now) name.now }
 {
-    match name.as_str() {
-        "seed" => read_seed(alloc, words),
-        "app_style" => read_app(alloc, words),
-        "lattice" => read_lattice(alloc, words),
-        "boundary" => read_boundary(alloc, words),
-        "region" => read_region(alloc, words),
-        "create_box" => read_create_box(alloc, words),
-        "create_sites" => read_create_sites(alloc, words),
-        _ => later_row_of(alloc, name, words),
+    match rows {
+        [row, rows @ ..] => {
+            if name == row.name {
+                Some(row.forms)
+            } else {
+                row_found(rows, name)
+            }
+        }
+        [] => None,
     }
 }
 
-/// The command that a name and the words behind it make.
+/// The form of a deciding word, or that the word is unknown or isn't built yet.
+#[tactic(auto, using(crate::proofs::Refusals::judged))]
+fn decided_by(
+    alloc: Global,
+    form: Option<Form>,
+    unbuilt: &[&str],
+    word: &Text,
+) -> Result<Form, CommandFault>
+    ensures { IsPlainOrMemory is_memory (decided_by (option_map form_seen form) (words_seen unbuilt.now) word.now) (found_seen result) }
+{
+    if let Some(form) = form {
+        return Ok(form);
+    }
+    if is_among(unbuilt, word.as_str()) {
+        return Err(CommandFault::NotBuilt(Text::copy(alloc, word.as_str())?));
+    }
+    Err(CommandFault::UnknownStyle(Text::copy(alloc, word.as_str())?))
+}
+
+/// The form of a deciding word, or that the word is missing, unknown or not built yet.
+#[tactic(auto, using(crate::proofs::Refusals::judged))]
+fn decided(
+    alloc: Global,
+    styles: &[Styled],
+    unbuilt: &[&str],
+    word: Option<&Text>,
+) -> Result<Form, CommandFault>
+    ensures { IsPlainOrMemory is_memory (decided (styles_seen styles.now) (words_seen unbuilt.now) (option_map (λ w. w.now) word.entry)) (found_seen result) }
+{
+    match word {
+        Some(word) => decided_by(alloc, styled_found(styles, word.as_str()), unbuilt, word),
+        None => Err(CommandFault::WrongCount),
+    }
+}
+
+/// The form of the words after a command's name.
+#[tactic(auto, using(crate::proofs::Refusals::judged))]
+fn form_of(alloc: Global, forms: Forms, name: &Text, words: &[Text]) -> Result<Form, CommandFault>
+    ensures { IsPlainOrMemory is_memory (form_of (forms_seen forms) name.now words.now) (found_seen result) }
+{
+    match forms {
+        Forms::Unbuilt => Err(CommandFault::NotBuilt(Text::copy(alloc, name.as_str())?)),
+        Forms::One(form) => Ok(form),
+        Forms::Several(place, styles, unbuilt) => decided(alloc, styles, unbuilt, words.get(place)),
+    }
+}
+
+/// The form of the words after a command's name, where the table has that.
+#[tactic(auto, using(crate::proofs::Refusals::judged))]
+fn form_found_by(
+    alloc: Global,
+    forms: Option<Forms>,
+    name: &Text,
+    words: &[Text],
+) -> Result<Form, CommandFault>
+    ensures { IsPlainOrMemory is_memory (form_found_by (option_map forms_seen forms) name.now words.now) (found_seen result) }
+{
+    match forms {
+        Some(forms) => form_of(alloc, forms, name, words),
+        None => Err(CommandFault::UnknownCommand(Text::copy(alloc, name.as_str())?)),
+    }
+}
+
+/// The form of a command's words.
+fn form_found(alloc: Global, name: &Text, words: &[Text]) -> Result<Form, CommandFault>
+    ensures { IsPlainOrMemory is_memory (form_found name.now words.now) (found_seen result) }
+{
+    let forms = row_found(rows(), name.as_str());
+    form_found_by(alloc, forms, name, words)
+}
+
+/// The command that words of a form make.
+#[tactic(auto, using(crate::proofs::Refusals::judged))]
+fn read_by(alloc: Global, form: &Form, words: &[Text]) -> Result<Command, CommandFault>
+    ensures { IsPlainOrMemory is_memory (read_by words.now (form_seen form.now)) result }
+{
+    let reading = read_form(alloc, form, words)?;
+    let command = made(alloc, form.maker, &reading)?;
+    Ok(command)
+}
+
+/// The command that a name and the words after it make.
+#[tactic(auto, using(crate::proofs::Refusals::judged))]
 fn named_command(alloc: Global, name: &Text, words: &[Text]) -> Result<Command, CommandFault>
-    ensures { Answers (command_by name.now words.now) result }
+    ensures { IsPlainOrMemory is_memory (named_command name.now words.now) result }
 {
-    if is_unbuilt(name.as_str()) {
-        return Err(CommandFault::NotBuilt(Text::copy(alloc, name.as_str())?));
-    }
-    row_of(alloc, name, words)
+    let form = form_found(alloc, name, words)?;
+    read_by(alloc, &form, words)
 }
 
-/// The command that words make.
-fn some_command(alloc: Global, words: &[Text]) -> Result<Command, CommandFault>
-    ensures { Answers (command_read words.now) result }
+/// The command that words make, or the first fault: an unknown command, an unknown deciding word, the number of words,
+/// the form of a word from the left, and the range of a number from the left.
+#[tactic(auto, using(crate::proofs::Refusals::judged))]
+pub fn command_of(alloc: Global, words: &[Text]) -> Result<Command, CommandFault>
+    ensures read { IsPlainOrMemory is_memory (command_read words.now) result }
+    ensures formed { IfOk result IsWellFormed }
 {
     let [name, rest @ ..] = words else {
         return Err(CommandFault::UnknownCommand(Text::copy(alloc, "")?));
     };
     named_command(alloc, name, rest)
-}
-
-/// The command that words make, or the first fault: an unknown command, an unknown deciding word, the number of words,
-/// the form of a word from the left, and the range of a number from the left.
-#[tactic(auto, using(crate::proofs::InTable::its_ranges))]
-pub fn command_of(alloc: Global, words: &[Text]) -> Result<Command, CommandFault>
-    ensures read { Answers (command_read words.now) result }
-    ensures ranges { IfOk result InRanges }
-{
-    some_command(alloc, words)
 }

@@ -1,13 +1,13 @@
 //! The options of the command line.
 
-ghost use Rattle.std.specs.Prelude.{◌≡◌, ◌<◌, ◌≤◌, ◌+◌, ◌^◌, ◌∷◌, length, map, Ok, Err, IfOk, ℕ};
+ghost use Rattle.std.specs.Prelude.{◌≡◌, ℕ, map, Ok, Err, IfOk};
 ghost use Rattle.std.specs.String.{string_bytes};
-ghost use Rattle.spk_cmds.specs.CommandLine.{options_from, options_of};
+ghost use Rattle.spk_cmds.specs.CommandLine.{options_of};
 ghost use Rattle.spk_cmds.specs.Inputs.{IsFile};
 
-use crate::given::Given;
-use crate::settings::Settings;
-use crate::taking::take;
+use crate::option_values::Line;
+use crate::options_builder::{finished, word_read};
+use crate::variables::Settings;
 use spk_num::text::Text;
 use std::alloc::{AllocError, Global};
 
@@ -49,7 +49,7 @@ pub struct Options {
 pub enum Usage {
     /// This word, counted from 1, is the first that can't stand there.
     Word(u64),
-    /// Memory is wanting.
+    /// There is no memory left.
     Memory,
 }
 
@@ -63,41 +63,91 @@ impl From<AllocError> for Usage {
     }
 }
 
-/// Reads one option more: what is given then, the place behind the option's values, and the words from there on.
-fn next_option<'a>(
-    alloc: Global,
-    given: Given,
-    place: u64,
-    option: &str,
-    words: &'a [String],
-) -> Result<(Given, u64, &'a [String]), Usage>
-    requires { place + length words.now + 2 < 2 ^ 64 }
-    ensures ok { IfOk result (λ next. options_from (length words.now + 2) given place (option.now ∷ map string_bytes words.now)
-        ≡ options_from (length next.2.now + 1) next.0 next.1 (map string_bytes next.2.now)) }
-    ensures word { (at : ℕ) → result ≡ Err (Usage.Word at) →
-        options_from (length words.now + 2) given place (option.now ∷ map string_bytes words.now) ≡ Err at }
-    ensures places { IfOk result (λ next. next.1 + length next.2.now ≡ place + length words.now + 1) }
-    ensures fewer { IfOk result (λ next. length next.2.now ≤ length words.now) }
-{
-    let (given, behind) = take(alloc, given, place, option, words)?;
-    let values = (words.len() - behind.len()) as u64;
-    Ok((given, place + 1 + values, behind))
-}
-
-/// The options that the words behind the program's name ask for.
+/// The options that the words after the program's name ask for.
 pub fn words_of(alloc: Global, args: &[String]) -> Result<Options, Usage>
     ensures ok { IfOk result (λ options. options_of (map string_bytes args.now) ≡ Ok options) }
     ensures file { IfOk result (λ options. IsFile options.input) }
     ensures word { (place : ℕ) → result ≡ Err (Usage.Word place) → options_of (map string_bytes args.now) ≡ Err place }
 {
-    let mut given = Given::new(alloc);
+    let mut line = Line::new(alloc);
     let mut place = 1;
-    let mut rest = args;
-    while let [option, words @ ..] = rest {
-        (given, place, rest) = next_option(alloc, given, place, option.as_str(), words)?;
+    let mut left = args;
+    while let [word, words @ ..] = left {
+        let Some(next) = word_read(alloc, line, place, word.as_str())? else {
+            return Err(Usage::Word(place));
+        };
+        line = next;
+        place += 1;
+        left = words;
     }
-    given.finished(alloc, place)
+    finished(alloc, line, place)
 }
 
 #[cfg(test)]
-mod tests;
+mod tests {
+    use super::*;
+    use std::test::Fail;
+
+    /// The name of the script.
+    fn script_name(options: &Options) -> &str {
+        match &options.input {
+            Input::File(name) => name.as_str(),
+            Input::Generate { .. } => "(generated)",
+        }
+    }
+
+    /// The name of the log, or that there is none.
+    fn log_name(options: &Options) -> &str {
+        match &options.log {
+            Some(name) => name.as_str(),
+            None => "(no log)",
+        }
+    }
+
+    /// Options by their values, with the number of variables.
+    fn options_text(alloc: Global, options: &Options) -> Result<String, AllocError> {
+        let script = script_name(options);
+        let log = log_name(options);
+        let echo = options.echo;
+        let workers = options.workers;
+        let place = options.workers_word;
+        let vars = options.vars.as_slice().len();
+        format!(in alloc; "{script} {log} {echo:?} {workers} {place} {vars}")
+    }
+
+    /// What a command line comes to, as a text.
+    fn told(alloc: Global, line: &str) -> Result<String, AllocError> {
+        let mut words = Vec::new(alloc);
+        for word in line.split_whitespace() {
+            words.push(String::from_str(alloc, word)?)?;
+        }
+        match words_of(alloc, &words) {
+            Ok(options) => options_text(alloc, &options),
+            Err(usage) => format!(in alloc; "{usage:?}"),
+        }
+    }
+
+    #[test]
+    fn reads_command_lines(rt: HostRuntime) -> Result<(), Fail> {
+        for (line, wanted) in [
+            ("-in a", "a log.spparks Log 1 0 0"),
+            (
+                "-var x -in -e both -v x 2 -workers 64 -i -in -l none",
+                "-in (no log) Both 64 10 2",
+            ),
+            ("", "Word(1)"),
+            ("-in", "Word(2)"),
+            ("-in a -in b", "Word(3)"),
+            ("-in a -log b -l c", "Word(5)"),
+            ("-var x-y z -in a", "Word(2)"),
+            ("-var x", "Word(3)"),
+            ("-in a -workers 65", "Word(4)"),
+            ("-in a -workers 01", "Word(4)"),
+            ("-in a --help", "Word(3)"),
+        ] {
+            let text = told(rt.alloc(), line)?;
+            assert_eq!(rt; text.as_str(), wanted, "at {line}");
+        }
+        Ok(())
+    }
+}

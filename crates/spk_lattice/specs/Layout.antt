@@ -1,5 +1,5 @@
 -- Which lattices there are: a style and its extents, modelled on SPPARKS's lattices. The limits are our own.
-use Rattle.std.specs.Prelude.{ℕ, ◌*◌, Bool, ◌&&◌, if◌then◌else◌, nat_lt, Result, Ok, Err}
+use Rattle.std.specs.Prelude.{◌≡◌, ℕ, ◌*◌, ◌≤◌, Bool, ◌&&◌, if◌then◌else◌, nat_lt, Result, Ok, Err}
 use Rattle.spk_num.specs.declared.style.Style.{Style}
 use Rattle.spk_num.specs.declared.style.Style.TheVariants.{Line2, Sq4, Sq8, Tri, Sc6, Sc26, Bcc, Fcc}
 use Rattle.spk_lattice.specs.declared.lattice.LatticeFault.{LatticeFault}
@@ -36,6 +36,15 @@ basis_of Fcc = 4
 
 abbrev pub sites_of : Layout → ℕ
 sites_of layout = basis_of layout.style * (layout.nx * layout.ny * layout.nz)
+
+-- used dimensions have at least 3 cells, the others one, and there are at most 4194304 sites
+pub record IsLattice (layout : Layout) : Type 0 where
+  pub along_x : 3 ≤ layout.nx
+  pub along_y : 2 ≤ dimensions_of layout.style → 3 ≤ layout.ny
+  pub along_z : 3 ≤ dimensions_of layout.style → 3 ≤ layout.nz
+  pub flat_y : dimensions_of layout.style ≤ 1 → layout.ny ≡ 1
+  pub flat_z : dimensions_of layout.style ≤ 2 → layout.nz ≡ 1
+  pub limit : sites_of layout ≤ 4194304
 
 -- a used dimension, counted from 0, has fewer than 3 cells
 abbrev pub is_small : Layout → ℕ → ℕ → Bool

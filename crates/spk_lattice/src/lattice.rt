@@ -1,7 +1,7 @@
 //! A periodic lattice by its style and extents.
 
 ghost use Rattle.std.specs.Prelude.{◌≡◌, ◌≤◌, ◌∷◌, []};
-ghost use Rattle.spk_lattice.specs.Layout.{lattice_of, sites_of, dimensions_of, basis_of};
+ghost use Rattle.spk_lattice.specs.Layout.{IsLattice, lattice_of, sites_of, dimensions_of, basis_of};
 
 use spk_num::style::Style;
 use std::marker::Model;
@@ -23,14 +23,13 @@ pub struct Lattice {
 }
 
 impl Model for Lattice {
-    ghost use Rattle.std.specs.Prelude.{◌≤◌};
-    ghost use Rattle.spk_lattice.specs.Layout.{Layout, sites_of};
+    ghost use Rattle.spk_lattice.specs.Layout.{Layout, IsLattice};
 
     ghost Value = { Layout };
 
     ghost view = { λ l. record { style = l.style; nx = l.nx; ny = l.ny; nz = l.nz } };
 
-    ghost invariant = { λ l. sites_of (record { style = l.style; nx = l.nx; ny = l.ny; nz = l.nz }) ≤ 4194304 };
+    ghost invariant = { λ l. IsLattice (record { style = l.style; nx = l.nx; ny = l.ny; nz = l.nz }) };
 
     ghost inverse = { λ d. record { style = d.style; nx = d.nx; ny = d.ny; nz = d.nz } };
 }
@@ -98,6 +97,13 @@ impl Lattice {
         Ok(Lattice { style, nx, ny, nz })
     }
 
+    /// What holds of every lattice: the least extents, and the most sites.
+    pub fn known(&self)
+        ensures { IsLattice self.now }
+    {
+        let _style = self.style;
+    }
+
     /// The style that the lattice was made with.
     pub fn style(&self) -> Style
         ensures { result ≡ self.now.style }
@@ -110,6 +116,14 @@ impl Lattice {
         ensures { result ≡ self.now.nx ∷ self.now.ny ∷ self.now.nz ∷ [] }
     {
         [self.nx, self.ny, self.nz]
+    }
+
+    /// How many dimensions the lattice uses: x alone, x and y, or all three.
+    pub fn dimensions(&self) -> u32
+        ensures dimensions { result ≡ dimensions_of self.now.style }
+        ensures few { result ≤ 3 }
+    {
+        dimensions(self.style)
     }
 
     /// How many sites there are, at most 4194304.
@@ -148,6 +162,8 @@ mod tests {
             .expect(&rt, "ten cells");
         assert_eq!(rt; lattice.style() == Style::Line2, true);
         assert_eq!(rt; lattice.extents(), [10, 1, 1]);
+        assert_eq!(rt; lattice.dimensions(), 1);
+        lattice.known();
         assert_eq!(rt; lattice.sites(), 10);
     }
 }

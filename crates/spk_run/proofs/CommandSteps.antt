@@ -1,130 +1,156 @@
 -- What a command does, and where it stops.
-use Rattle.std.proofs.Common.{◌≡◌, ℕ, ◌+◌, ◌<◌, ◌^◌, List, [], ◌∷◌, ◌++◌, Option, Some, None, Result, Ok, Err, refl, sym, subst, ◌∙◌, inl, inr, arith}
+use Rattle.std.proofs.Common.{◌≡◌, ℕ, ◌+◌, ◌<◌, ◌^◌, ◌++◌, true, false, List, [], ◌∷◌, Option, Some, None, Result, Ok, Err, refl, sym, ap, ◌∙◌, subst, inl, inr, arith}
+use Rattle.std.specs.Option.{IfSome}
+use Rattle.std.specs.Result.{IfErr, IsErrAnd}
 use Rattle.std.proofs.lemmas.Bool.{cases_Bool}
 use Rattle.std.proofs.lemmas.Bool.Decides.{nat_tests}
-use Rattle.std.specs.Option.{IfSome}
-use Rattle.std.specs.Result.{IsErrAnd}
 use Rattle.spk_num.specs.declared.decimal.Dec.{Dec}
+use Rattle.spk_world.specs.Outside.{Outside}
+use Rattle.spk_world.specs.States.{WorldState}
+use Rattle.spk_world.specs.Effects.{Effect, ◌>>=◌, ◌>>◌, answers, Stop, WriteFailed, Wrote}
+use Rattle.spk_world.specs.Effects.{OutOfMemory as WorldOutOfMemory}
+use Rattle.spk_world.proofs.EffectLaws.{is_error, wrote_then, wrote_failed, wrote_answer, wrote_nothing, wrote_whole, wrote_fault}
 use Rattle.spk_cmds.specs.declared.command.Command.{Command}
 use Rattle.spk_cmds.specs.declared.command.Command.TheVariants.{Seed, App, Dimension, Lattice, Boundary, Processors, Region, CreateBox, CreateSites, Set, ReadSites, WriteRestart, ReadRestart, Sector, Solve, Sweep, Temperature, Stats, DiagEnergy, Dump, Undump, Run, Print, SetEcho}
-use Rattle.spk_world.specs.Outside.{Outside}
-use Rattle.spk_world.specs.Causes.{Faults}
-use Rattle.spk_world.specs.Effects.{Effect, ◌>>◌, answers, MemoryWanting, WriteFailed, Wrote}
-use Rattle.spk_world.proofs.EffectLaws.{wrote_then, wrote_failed, wrote_answer, wrote_nothing, wrote_whole, wrote_fault}
-use Rattle.spk_run.specs.declared.answer.Cause.{Cause}
-use Rattle.spk_run.specs.declared.answer.Cause.TheVariants.{RunTooLong}
 use Rattle.spk_run.specs.declared.answer.Target.{Target}
-use Rattle.spk_run.specs.declared.sites.Sites.{Sites}
-use Rattle.spk_run.specs.declared.state.Domain.{Domain}
+use Rattle.spk_run.specs.declared.cause.Cause.{Cause}
+use Rattle.spk_run.specs.declared.cause.Cause.TheVariants.{RunTooLong}
+use Rattle.spk_run.specs.declared.domain.Domain.{Domain}
+use Rattle.spk_run.specs.declared.fault.Fault.{Fault}
+use Rattle.spk_run.specs.declared.fault.Fault.TheVariants as fault
+use Rattle.spk_run.specs.declared.run_settings.RunSettings.{RunSettings}
 use Rattle.spk_run.specs.declared.state.SessionState.{SessionState}
-use Rattle.spk_run.specs.declared.trouble.WriteTrouble.{WriteTrouble}
-use Rattle.spk_run.specs.declared.trouble.Trouble.{Trouble}
-use Rattle.spk_run.specs.declared.trouble.Trouble.TheVariants.{Refused, ReadFault, WriteFault, Memory}
-use Rattle.spk_run.specs.Endings.{place_of_target}
-use Rattle.spk_run.specs.Output.{told}
-use Rattle.spk_run.specs.Runs.{ran}
-use Rattle.spk_run.specs.Session.{first_of, if_so, ticks_of, bad_value, is_too_long, domain_causes, run_causes, cause, set_by, times_of, after_run, ran_on, done_by, obeyed}
-use Rattle.spk_run.specs.Troubles.{write_stop, trouble_stop, obeyed_to, done_to, IsDone}
+use Rattle.spk_run.specs.Endings.{target_stop, place_of_target}
+use Rattle.spk_run.specs.declared.running.RunRoom.{RunRoom}
+use Rattle.spk_run.specs.Prepared.{HasRoom, IsPreparedFor, IsPrepared}
+use Rattle.spk_run.specs.Faults.{fault_stop, done_to, NoRead, LeavesDone, WritesAfterMemory}
+use Rattle.spk_run.specs.Output.{prints, prints_all}
+use Rattle.spk_run.specs.Plans.{is_too_long}
+use Rattle.spk_run.specs.Runs.{runs, run_texts, domain_after}
+use Rattle.spk_run.specs.States.{first_of, if_so, ticks_of}
+use Rattle.spk_run.specs.Commands.{cause, set_by, performs}
+use Rattle.spk_run.specs.Commands.NotBuilt.{unbuilt_word}
+use Rattle.spk_run.specs.Commands.Run.{settings_of, bad_value, domain_cause, domain_causes, run_causes, run_cause, with_domain, runs_by, runs_domain_by, performs_run}
 
-pub trouble_stop-memory : trouble_stop Memory ≡ MemoryWanting
-unfolding trouble_stop
-trouble_stop-memory = refl
+pub fault_stop-memory : fault_stop fault.Memory ≡ WorldOutOfMemory
+unfolding fault_stop
+fault_stop-memory = refl
 
-trouble_stop-write : (at : Target) → trouble_stop (WriteFault at) ≡ WriteFailed (place_of_target at)
-unfolding trouble_stop
-trouble_stop-write at = refl
+pub fault_stop-write : (target : Target) → fault_stop (fault.Write target) ≡ target_stop target
+unfolding fault_stop target_stop
+fault_stop-write target = refl
 
--- memory was wanting before anything was written
-pub command_wanting : {A : Type 0} {told : Option Outside} {faults : Faults} {effect : Effect A} {result : Result A Trouble} →
-    IsErrAnd result (λ y. y ≡ Memory) → Wrote trouble_stop told told faults faults effect result
-command_wanting is = wrote_nothing _ is trouble_stop-memory
+-- out of memory before anything was written
+pub out_of_memory : {A : Type 0} {state : WorldState} {effect : Effect A} (result : Result A Fault) →
+    IsErrAnd result (λ y. y ≡ fault.Memory) → Wrote fault_stop state state effect result
+out_of_memory result is = wrote_nothing _ is fault_stop-memory
 
-pub command_wanted : {told : Option Outside} {faults : Faults} {effect : Effect SessionState} (state : SessionState) (result : Result (Unit {0}) Trouble) →
-    IsErrAnd result (λ y. y ≡ Memory) → Wrote trouble_stop told told faults faults effect (done_to state result)
-command_wanted state (Ok _) is = absurd is
-command_wanted state (Err stopped) is = command_wanting {result = Err stopped} is
+pub done_out_of_memory : {world : WorldState} {effect : Effect (Result SessionState Cause)} (state : SessionState) (result : Result (Unit {0}) Fault) →
+    IsErrAnd result (λ y. y ≡ fault.Memory) → Wrote fault_stop world world effect (done_to state result)
+done_out_of_memory state (Ok _) is = absurd is
+done_out_of_memory state (Err stopped) is = out_of_memory (Err stopped) is
 
--- a write failed
-pub command_stopped : {A : Type 0} {before now : Option Outside} {f0 f1 : Faults} {effect : Effect A} (log : Option (List ℕ)) (trouble : WriteTrouble) (at : Target) →
-    write_stop log trouble ≡ WriteFailed (place_of_target at) → Wrote (write_stop log) before now f0 f1 effect (Err trouble) → Wrote trouble_stop before now f0 f1 effect (Err (WriteFault at))
-command_stopped log trouble at place front = wrote_fault trouble (trouble_stop-write at ∙ sym place) front
+-- a write that failed is the fault of the whole
+pub write_failed : {A : Type 0} {before now : WorldState} {effect : Effect A} (target : Target) (result : Result A Fault) →
+    IsErrAnd result (λ y. y ≡ fault.Write target) → Wrote target_stop before now effect (Err target) → Wrote fault_stop before now effect result
+write_failed target result is prefix = rw (is_error result _ is) (wrote_fault target (fault_stop-write target) prefix)
 
 -- a text was printed, or could not be
-print_by : (state : SessionState) (text : List ℕ) → done_by state (Print text) ≡ (told state.log (text ++ 10 ∷ []) >> answers state)
-unfolding done_by
+print_by : (state : SessionState) (text : List ℕ) → performs state (Print text) ≡ (prints state.log (text ++ 10 ∷ []) >> answers (Ok state))
+unfolding performs
 print_by state text = refl
 
-pub printed : {before now : Option Outside} {f0 f1 : Faults} (state : SessionState) (text line : List ℕ) (log : Option (List ℕ)) → log ≡ state.log → line ≡ text ++ 10 ∷ [] →
-    Wrote (write_stop log) before now f0 f1 (told log line) (Ok tt) → Wrote trouble_stop before now f0 f1 (done_by state (Print text)) (Ok state)
-printed state text line log same is done = rw (print_by state text) (wrote_then _ (wrote_whole (rw (same, is) at done)) wrote_answer)
+pub print_done : (before now : WorldState) (state : SessionState) (text : List ℕ) (result : Result (Unit {0}) Fault) →
+    Wrote fault_stop before now (prints state.log (text ++ 10 ∷ [])) result → Wrote fault_stop before now (performs state (Print text)) (done_to state result)
+print_done before now state text (Ok _) done = rw (print_by state text) (wrote_then _ done wrote_answer)
+print_done before now state text (Err stopped) done = rw (print_by state text) (wrote_failed {result = Err stopped} _ refl done)
 
-pub not_printed : {before now : Option Outside} {f0 f1 : Faults} (state : SessionState) (text line : List ℕ) (log : Option (List ℕ)) (trouble : WriteTrouble) (at : Target) → log ≡ state.log → line ≡ text ++ 10 ∷ [] →
-    write_stop log trouble ≡ WriteFailed (place_of_target at) → Wrote (write_stop log) before now f0 f1 (told log line) (Err trouble) → Wrote trouble_stop before now f0 f1 (done_by state (Print text)) (Err (WriteFault at))
-not_printed state text line log trouble at same is place front =
-    let stopped : Wrote trouble_stop _ _ _ _ (told state.log (text ++ 10 ∷ [])) (Err (WriteFault at)) = command_stopped state.log trouble at (rw same at place) (rw (same, is) at front) in
-    rw (print_by state text) (wrote_failed {result = Err (WriteFault at)} _ refl stopped)
+-- the answer of an effect that is followed by an answer alone
+then_answer : {A B : Type 0} (effect : Effect A) (next : A → B) (outside : Outside) → ((effect >>= λ a. answers (next a)) outside).answer ≡ next (effect outside).answer
+unfolding ◌>>=◌ answers
+then_answer effect next outside = refl
+
+print_left_by : (told : Option Outside) (state : SessionState) (text : List ℕ) (result : Result (Unit {0}) Fault) → IfErr result NoRead → LeavesDone told (performs state (Print text)) state state result
+print_left_by told state text (Ok _) none = tt
+print_left_by told state text (Err (fault.Read name)) none = absurd none
+print_left_by None state text (Err (fault.Write target)) none = tt
+print_left_by (Some outside) state text (Err (fault.Write target)) none = rw (print_by state text) (then_answer (prints state.log (text ++ 10 ∷ [])) (λ _. let made : Result SessionState Cause = Ok state in made) outside)
+print_left_by told state text (Err fault.Memory) none = tt
+
+pub print_left : (told : Option Outside) (state : SessionState) (text : List ℕ) (result : Result (Unit {0}) Fault) → IfErr result NoRead → LeavesDone told (performs state (Print text)) state state result
+print_left = print_left_by
 
 -- there is nothing to run without a box
-pub nothing_ran : {told : Option Outside} {faults : Faults} (state : SessionState) (length : ℕ) → state.domain ≡ None → Wrote trouble_stop told told faults faults (ran_on state length state.domain) (Ok state)
-nothing_ran state length none = rw none wrote_answer
-
-pub nothing_ran_on : {told : Option Outside} {faults : Faults} (state : SessionState) (length : ℕ) (domain : Option Domain) → state.domain ≡ None → domain ≡ None →
-    Wrote trouble_stop told told faults faults (ran_on state length state.domain) (Ok (record state { domain = domain }))
-nothing_ran_on {told = told} {faults = faults} state length domain none after =
-    subst (λ d. Wrote trouble_stop told told faults faults (ran_on state length state.domain) (Ok (record state { domain = d }))) (none ∙ sym after) (nothing_ran state length none)
+pub nothing_runs : {world : WorldState} (state : SessionState) (settings : RunSettings) (domain : Option Domain) → state.domain ≡ None → domain ≡ None →
+    Wrote fault_stop world world (runs_domain_by state settings state.domain) (Ok (Ok (record state { domain = domain })))
+nothing_runs {world = world} state settings domain none after =
+    subst (λ (d : Option Domain). Wrote fault_stop world world (runs_domain_by state settings state.domain) (Ok (Ok (record state { domain = d })))) (none ∙ sym after) (rw none wrote_answer)
 
 -- a run was done to its end, or stopped
-pub ran_whole : {before now : Option Outside} {f0 f1 : Faults} (state : SessionState) (length : ℕ) (domain : Domain) (log : Option (List ℕ)) (sites : Sites) → state.domain ≡ Some domain → log ≡ state.log →
-    Wrote (write_stop log) before now f0 f1 (ran log (times_of state length domain) domain.sites) (Ok sites) →
-    Wrote trouble_stop before now f0 f1 (ran_on state length state.domain) (Ok (after_run state length domain sites))
-ran_whole state length domain log sites is same done = rw is (wrote_then _ (wrote_whole (rw same at done)) wrote_answer)
+pub runs_whole : (before now : WorldState) (state : SessionState) (settings : RunSettings) (domain after : Domain) (log : Option (List ℕ)) → state.domain ≡ Some domain → log ≡ state.log →
+    after ≡ domain_after settings domain → Wrote target_stop before now (prints_all log (run_texts settings domain)) (Ok tt) →
+    Wrote fault_stop before now (runs_domain_by state settings state.domain) (Ok (Ok (with_domain state after)))
+runs_whole before now state settings domain after log is same box done =
+    let whole : Wrote target_stop before now (runs state.log settings domain) (Ok (domain_after settings domain)) = wrote_then _ (rw same at done) wrote_answer in
+    rw (is, box) (wrote_then _ (wrote_whole whole) wrote_answer)
 
-pub ran_no_further : {before now : Option Outside} {f0 f1 : Faults} (state : SessionState) (length : ℕ) (domain : Domain) (log : Option (List ℕ)) (trouble : WriteTrouble) (at : Target) → state.domain ≡ Some domain → log ≡ state.log →
-    write_stop log trouble ≡ WriteFailed (place_of_target at) → Wrote (write_stop log) before now f0 f1 (ran log (times_of state length domain) domain.sites) (Err trouble) →
-    Wrote trouble_stop before now f0 f1 (ran_on state length state.domain) (Err (WriteFault at))
-ran_no_further state length domain log trouble at is same place front =
-    let stopped : Wrote trouble_stop _ _ _ _ (ran state.log (times_of state length domain) domain.sites) (Err (WriteFault at)) = command_stopped state.log trouble at (rw same at place) (rw same at front) in
-    rw is (wrote_failed {result = Err (WriteFault at)} _ refl stopped)
+pub runs_no_further : (before now : WorldState) (state after : SessionState) (settings : RunSettings) (domain : Domain) (log : Option (List ℕ)) (target : Target) (result : Result (Unit {0}) Fault) →
+    IsErrAnd result (λ y. y ≡ fault.Write target) → state.domain ≡ Some domain → log ≡ state.log →
+    Wrote target_stop before now (prints_all log (run_texts settings domain)) (Err target) →
+    Wrote fault_stop before now (runs_domain_by state settings state.domain) (done_to after result)
+runs_no_further before now state after settings domain log target result failed is same prefix =
+    let part : Wrote target_stop before now (runs state.log settings domain) (Err target) = wrote_failed {result = Err target} _ refl (rw same at prefix) in
+    let stopped : Wrote fault_stop before now (runs state.log settings domain) (Err (fault.Write target)) = wrote_fault target (fault_stop-write target) part in
+    rw (is, is_error result _ failed) (wrote_failed {result = Err (fault.Write target)} _ refl stopped)
 
--- a command that isn't refused
-run_by : (state : SessionState) (length : Dec) → done_by state (Run length) ≡ ran_on state (ticks_of length) state.domain
-unfolding done_by
-run_by state length = refl
+-- after a write that failed the session is the one after the whole run
+runs_answer : (state : SessionState) (settings : RunSettings) (domain : Domain) (outside : Outside) → (runs_by state settings domain outside).answer ≡ Ok (with_domain state (domain_after settings domain))
+runs_answer state settings domain outside =
+    then_answer (runs state.log settings domain) (λ after. Ok (with_domain state after)) outside
+    ∙ ap (λ (d : Domain). let made : Result SessionState Cause = Ok (with_domain state d) in made) (then_answer (prints_all state.log (run_texts settings domain)) (λ _. domain_after settings domain) outside)
 
-pub run_done : {before now : Option Outside} {f0 f1 : Faults} (state : SessionState) (length : Dec) (ticks : ℕ) (result : Result SessionState Trouble) → ticks ≡ ticks_of length →
-    Wrote trouble_stop before now f0 f1 (ran_on state ticks state.domain) result → Wrote trouble_stop before now f0 f1 (done_by state (Run length)) result
-run_done state length ticks result is done = rw (run_by state length) (rw is at done)
+run_session_by : (told : Option Outside) (state : SessionState) (settings : RunSettings) (domain after : Domain) (target : Target) → after ≡ domain_after settings domain →
+    LeavesDone {A = Unit {0}} told (runs_by state settings domain) state (with_domain state after) (Err (fault.Write target))
+run_session_by None state settings domain after target box = tt
+run_session_by (Some outside) state settings domain after target box = runs_answer state settings domain outside ∙ rw box refl
 
-pub done_by-other : (state : SessionState) (command : Command) → ((length : Dec) → command ≡ Run length → ⊥) → ((text : List ℕ) → command ≡ Print text → ⊥) → done_by state command ≡ answers (set_by state command)
-unfolding done_by
-done_by-other state (Seed seed) not_run not_print = refl
-done_by-other state (App style) not_run not_print = refl
-done_by-other state (Dimension d) not_run not_print = refl
-done_by-other state (Lattice style scale) not_run not_print = refl
-done_by-other state (Boundary faces) not_run not_print = refl
-done_by-other state (Processors ranks) not_run not_print = refl
-done_by-other state (Region name shape) not_run not_print = refl
-done_by-other state (CreateBox region) not_run not_print = refl
-done_by-other state CreateSites not_run not_print = refl
-done_by-other state (Set value fraction region) not_run not_print = refl
-done_by-other state (ReadSites file) not_run not_print = refl
-done_by-other state (WriteRestart file) not_run not_print = refl
-done_by-other state (ReadRestart file) not_run not_print = refl
-done_by-other state (Sector is tstop nstop) not_run not_print = refl
-done_by-other state (Solve style) not_run not_print = refl
-done_by-other state (Sweep style) not_run not_print = refl
-done_by-other state (Temperature t) not_run not_print = refl
-done_by-other state (Stats delta) not_run not_print = refl
-done_by-other state DiagEnergy not_run not_print = refl
-done_by-other state (Dump name style delta file fields) not_run not_print = refl
-done_by-other state (Undump name) not_run not_print = refl
-done_by-other state (Run length) not_run not_print = absurd (not_run length refl)
-done_by-other state (Print text) not_run not_print = absurd (not_print text refl)
-done_by-other state (SetEcho style) not_run not_print = refl
+pub run_session : (told : Option Outside) (state : SessionState) (settings : RunSettings) (domain after : Domain) (target : Target) (result : Result (Unit {0}) Fault) →
+    IsErrAnd result (λ y. y ≡ fault.Write target) → state.domain ≡ Some domain → after ≡ domain_after settings domain →
+    LeavesDone told (runs_domain_by state settings state.domain) state (with_domain state after) result
+run_session told state settings domain after target result failed is box =
+    subst (λ (d : Option Domain). LeavesDone told (runs_domain_by state settings d) state (with_domain state after) result) (sym is)
+    (subst (λ (r : Result (Unit {0}) Fault). LeavesDone told (runs_by state settings domain) state (with_domain state after) r) (sym (is_error result _ failed))
+    (run_session_by told state settings domain after target box))
 
-pub set_done : {told : Option Outside} {faults : Faults} (state next : SessionState) (command : Command) → ((length : Dec) → command ≡ Run length → ⊥) → ((text : List ℕ) → command ≡ Print text → ⊥) → next ≡ set_by state command →
-    Wrote trouble_stop told told faults faults (done_by state command) (Ok next)
-set_done state next command not_run not_print is = rw (done_by-other state command not_run not_print, is) wrote_answer
+-- a failed write alone is a fault after which something may be written
+pub write_after_memory : (before now : Option Outside) (target : Target) (result : Result (Unit {0}) Fault) → IsErrAnd result (λ y. y ≡ fault.Write target) → WritesAfterMemory before now result
+write_after_memory before now target result failed = rw (is_error result _ failed) tt
+
+-- what was made for a run, if there is a box
+prepared_by : (state : SessionState) (run : ℕ) (domain : Option Domain) (settings : RunSettings) (room : RunRoom) → IsPreparedFor state run domain (Some (settings, room)) →
+    (found : Domain) × (domain ≡ Some found) × HasRoom state run found settings room
+prepared_by state run None settings room prepared = absurd (cc prepared)
+prepared_by state run (Some domain) settings room prepared = (domain, refl, prepared)
+
+pub prepared_box : (state : SessionState) (run : ℕ) (settings : RunSettings) (room : RunRoom) → IsPrepared state run (Some (settings, room)) →
+    (found : Domain) × (state.domain ≡ Some found) × HasRoom state run found settings room
+prepared_box state run settings room prepared = prepared_by state run state.domain settings room prepared
+
+no_box_by : (state : SessionState) (run : ℕ) (domain : Option Domain) → IsPreparedFor state run domain None → domain ≡ None
+no_box_by state run None prepared = refl
+no_box_by state run (Some domain) prepared = absurd prepared
+
+pub no_box : (state : SessionState) (run : ℕ) → IsPrepared state run None → state.domain ≡ None
+no_box state run prepared = no_box_by state run state.domain prepared
+
+-- without a box nothing is run
+pub runs_nothing : {world : WorldState} (state : SessionState) (run : ℕ) → state.domain ≡ None → Wrote fault_stop world world (performs_run state run) (Ok (Ok state))
+runs_nothing {world = world} state run none = rw none wrote_answer
+
+-- a run with the settings of its session
+pub runs_with : (state : SessionState) (run : ℕ) (settings : RunSettings) (domain : Domain) → state.domain ≡ Some domain → settings ≡ settings_of state run domain →
+    runs_domain_by state settings state.domain ≡ performs_run state run
+runs_with state run settings domain is same = rw is (ap (λ (s : RunSettings). runs_by state s domain) same)
 
 -- a run that isn't refused ends in time
 abbrev NoneHolds : List (Option Cause) → Type 0
@@ -136,41 +162,70 @@ none_holds [] none = tt
 none_holds (None ∷ causes) none = (refl, none_holds causes none)
 none_holds (Some found ∷ causes) none = absurd (cc none)
 
-not_too_long : (start length : ℕ) → if_so (is_too_long start length) RunTooLong ≡ None → start + length < 2 ^ 64
-not_too_long start length none =
-    elim (cases_Bool (is_too_long start length)) [
-      | inl long ↦ let some : if_so (is_too_long start length) RunTooLong ≡ Some RunTooLong = rw long refl in absurd (cc (some, none))
+not_too_long : (settings : RunSettings) → if_so (is_too_long settings) RunTooLong ≡ None → settings.start + settings.length < 2 ^ 64
+not_too_long settings none =
+    elim (cases_Bool (is_too_long settings)) [
+      | inl long ↦ let some : if_so (is_too_long settings) RunTooLong ≡ Some RunTooLong = rw long refl in absurd (cc (some, none))
       | inr short ↦ grind (arith, nat_tests)
     ]
 
-fits_by : (length : ℕ) (domain : Option Domain) → domain_causes length domain ≡ None → IfSome domain (λ domain. domain.time + length < 2 ^ 64)
-fits_by length None none = tt
-fits_by length (Some domain) none =
-    not_too_long domain.time length (none_holds (bad_value domain.sites.values ∷ if_so (is_too_long domain.time length) RunTooLong ∷ []) none).1.0
+fits_by : (state : SessionState) (run : ℕ) (domain : Domain) → domain_cause state run domain ≡ None → domain.time + run < 2 ^ 64
+fits_by state run domain none =
+    not_too_long (settings_of state run domain) (none_holds (bad_value domain.values ∷ if_so (is_too_long (settings_of state run domain)) RunTooLong ∷ []) none).1.0
 
-pub run_fits : (state : SessionState) (length : Dec) → cause state (Run length) ≡ None → IfSome state.domain (λ domain. domain.time + ticks_of length < 2 ^ 64)
-unfolding cause
-run_fits state length none = fits_by (ticks_of length) state.domain (none_holds (run_causes state (ticks_of length)) none).1.1.1.1.1.0
+pub run_fits : (state : SessionState) (run : ℕ) (domain : Domain) → state.domain ≡ Some domain → run_cause state run ≡ None → domain.time + run < 2 ^ 64
+run_fits state run domain is none =
+    let last : domain_causes state run state.domain ≡ None = (none_holds (run_causes state run) none).1.1.1.1.1.0 in
+    fits_by state run domain (rw is at last)
 
--- a command that is refused, and one that is obeyed
-pub obeyed_not : {told : Option Outside} {faults : Faults} (state : SessionState) (command : Command) (refused : Cause) → cause state command ≡ Some refused →
-    Wrote trouble_stop told told faults faults (obeyed state command) (Ok (Err refused))
-unfolding obeyed
-obeyed_not state command refused is = rw is wrote_answer
+-- commands that neither run nor print
+performs_other : (state : SessionState) (command : Command) → ((length : Dec) → command ≡ Run length → ⊥) → ((text : List ℕ) → command ≡ Print text → ⊥) →
+    performs state command ≡ answers (Ok (set_by state command))
+unfolding performs
+performs_other state (Seed seed) not_run not_print = refl
+performs_other state (App style) not_run not_print = refl
+performs_other state (Dimension d) not_run not_print = refl
+performs_other state (Lattice style scale) not_run not_print = refl
+performs_other state (Boundary faces) not_run not_print = refl
+performs_other state (Processors ranks) not_run not_print = refl
+performs_other state (Region name shape) not_run not_print = refl
+performs_other state (CreateBox region) not_run not_print = refl
+performs_other state CreateSites not_run not_print = refl
+performs_other state (Set value fraction region) not_run not_print = refl
+performs_other state (ReadSites file) not_run not_print = refl
+performs_other state (WriteRestart file) not_run not_print = refl
+performs_other state (ReadRestart file) not_run not_print = refl
+performs_other state (Sector is tstop nstop) not_run not_print = refl
+performs_other state (Solve style) not_run not_print = refl
+performs_other state (Sweep style) not_run not_print = refl
+performs_other state (Temperature t) not_run not_print = refl
+performs_other state (Stats delta) not_run not_print = refl
+performs_other state DiagEnergy not_run not_print = refl
+performs_other state (Dump name style delta file fields) not_run not_print = refl
+performs_other state (Undump name) not_run not_print = refl
+performs_other state (Run length) not_run not_print = absurd (not_run length refl)
+performs_other state (Print text) not_run not_print = absurd (not_print text refl)
+performs_other state (SetEcho style) not_run not_print = refl
 
-pub obeyed_whole : {before now : Option Outside} {f0 f1 : Faults} (log : Option (List ℕ)) (state next : SessionState) (command : Command) (result : Result (Unit {0}) Trouble) → cause state command ≡ None → IsDone log result →
-    Wrote trouble_stop before now f0 f1 (done_by state command) (done_to next result) → Wrote trouble_stop before now f0 f1 (obeyed state command) (obeyed_to next result)
-unfolding obeyed
-obeyed_whole log state next command (Ok _) none is done = rw none (wrote_then _ done wrote_answer)
-obeyed_whole log state next command (Err (Refused cause)) none is done = absurd is
-obeyed_whole log state next command (Err (ReadFault name)) none is done = absurd is
-obeyed_whole log state next command (Err (WriteFault at)) none is done = rw none (wrote_failed {result = Err (WriteFault at)} _ refl done)
-obeyed_whole log state next command (Err Memory) none is done = rw none (wrote_failed {result = Err Memory} _ refl done)
+pub set_done : {world : WorldState} (state next : SessionState) (command : Command) → ((length : Dec) → command ≡ Run length → ⊥) → ((text : List ℕ) → command ≡ Print text → ⊥) →
+    next ≡ set_by state command → Wrote fault_stop world world (performs state command) (Ok (Ok next))
+set_done state next command not_run not_print is = rw (performs_other state command not_run not_print, is) wrote_answer
 
-pub obeyed_wanted : {told : Option Outside} {faults : Faults} {effect : Effect (Result SessionState Cause)} (state : SessionState) (result : Result (Unit {0}) Trouble) →
-    IsErrAnd result (λ y. y ≡ Memory) → Wrote trouble_stop told told faults faults effect (obeyed_to state result)
-obeyed_wanted state (Ok _) is = absurd is
-obeyed_wanted state (Err (Refused cause)) is = absurd (cc is)
-obeyed_wanted state (Err (ReadFault name)) is = command_wanting {result = Err (ReadFault name)} is
-obeyed_wanted state (Err (WriteFault at)) is = command_wanting {result = Err (WriteFault at)} is
-obeyed_wanted state (Err Memory) is = command_wanting {result = Err Memory} is
+run_by : (state : SessionState) (length : Dec) → performs state (Run length) ≡ performs_run state (ticks_of length)
+unfolding performs
+run_by state length = refl
+
+pub run_done : {before now : WorldState} (state : SessionState) (length : Dec) (ticks : ℕ) (result : Result (Result SessionState Cause) Fault) → ticks ≡ ticks_of length →
+    Wrote fault_stop before now (performs_run state ticks) result → Wrote fault_stop before now (performs state (Run length)) result
+run_done state length ticks result is done = rw (run_by state length) (rw is at done)
+
+pub run_left : (told : Option Outside) (state next : SessionState) (length : Dec) (ticks : ℕ) (result : Result (Unit {0}) Fault) → ticks ≡ ticks_of length →
+    LeavesDone told (performs_run state ticks) state next result → LeavesDone told (performs state (Run length)) state next result
+run_left told state next length ticks result is left = rw (run_by state length) (rw is at left)
+
+pub run_free : (state : SessionState) (length : Dec) → cause state (Run length) ≡ None → run_cause state (ticks_of length) ≡ None
+unfolding cause unbuilt_word
+run_free state length none = (none_holds (None ∷ run_cause state (ticks_of length) ∷ []) none).1.0
+
+pub free_run : (state : SessionState) (length : Dec) (ticks : ℕ) → ticks ≡ ticks_of length → cause state (Run length) ≡ None → run_cause state ticks ≡ None
+free_run state length ticks is none = rw is (run_free state length none)

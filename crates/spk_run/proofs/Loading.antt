@@ -1,81 +1,75 @@
--- What follows from a load of the script: its lines, or the refusal of a script that isn't there or is too long.
+-- What follows a load of the script: its lines, or the refusal of a script that isn't there or is too long.
 use Rattle.std.proofs.Common.{◌≡◌, ℕ, ◌+◌, ◌≤◌, true, false, not, List, [], ◌∷◌, length, inl, inr, sym, ◌∙◌, Option, Some, None, Result, Ok, Err, Vec, refl, ap, subst, arith}
 use Rattle.std.specs.Prelude.{nat_lt}
 use Rattle.std.specs.Option.{IfSome, IsSomeAnd}
-use Rattle.std.specs.Result.{IsErrAnd}
+use Rattle.std.specs.List.{position}
 use Rattle.std.specs.declared.alloc.Global.{Global}
+use Rattle.std.proofs.lemmas.Bool.{cases_Bool}
 use Rattle.std.proofs.lemmas.Bool.Decides.{nat_tests}
 use Rattle.spk_world.specs.Outside.{Outside}
-use Rattle.spk_world.specs.Causes.{Faults, Later, Loads, LoadCause}
+use Rattle.spk_world.specs.States.{WorldState}
+use Rattle.spk_world.specs.Causes.{Loads, LoadCause}
 use Rattle.spk_world.specs.declared.world.LoadFault.{LoadFault}
 use Rattle.spk_world.specs.declared.world.LoadFault.TheVariants.{Missing, TooLong, Failed}
 use Rattle.spk_world.specs.Effects.{Effect, LoadFailed, Wrote}
-use Rattle.spk_world.proofs.EffectLaws.{is_error}
-use Rattle.spk_world.proofs.LoadLaws.{behind_load, load_failed, load_wanting}
+use Rattle.spk_world.proofs.LoadLaws.{wrote_after_load, load_failed, load_out_of_memory, load_later}
 use Rattle.spk_script.specs.declared.script.ScriptFault.TheVariants as script
 use Rattle.spk_script.specs.declared.script.ScriptFault.{ScriptFault}
+use Rattle.spk_script.specs.declared.setting.Setting.{Setting}
 use Rattle.spk_script.specs.Words.{is_allowed}
 use Rattle.spk_script.specs.Lines.{LogicalLine, physical_lines, runs_of, logical_line, put_line, logical_lines, lines_of_few, lines_of_allowed, lines_of, IsFault}
-use Rattle.std.specs.List.{position}
-use Rattle.std.proofs.lemmas.Bool.{cases_Bool}
 use Rattle.spk_cmds.specs.declared.options.Input.TheVariants.{File}
-use Rattle.spk_cmds.specs.declared.options.Options.{Options}
 use Rattle.spk_run.specs.declared.answer.Ending.{Ending}
-use Rattle.spk_run.specs.declared.trouble.Fault.{Fault}
-use Rattle.spk_run.specs.declared.trouble.Fault.TheVariants.{Memory, Read}
-use Rattle.spk_run.specs.Troubles.{stop_of, script_name}
-use Rattle.spk_run.proofs.Logs.{stop_of-memory, stop_of-read}
-use Rattle.spk_run.specs.declared.answer.Cause.TheVariants.{ScriptTooLong, FileMissing}
-use Rattle.spk_run.specs.Output.{refused}
-use Rattle.spk_run.specs.Plain.{script_obeyed, input_obeyed}
+use Rattle.spk_run.specs.declared.cause.Cause.TheVariants.{ScriptTooLong, FileMissing}
+use Rattle.spk_run.specs.declared.fault.Fault.{Fault}
+use Rattle.spk_run.specs.declared.fault.Fault.TheVariants.{Memory, Read}
+use Rattle.spk_run.specs.declared.state.SessionState.{SessionState}
+use Rattle.spk_run.specs.Endings.{refuses}
+use Rattle.spk_run.specs.Faults.{fault_stop}
+use Rattle.spk_run.specs.Plain.{obeys_file, obeys_input}
+use Rattle.spk_run.proofs.CommandSteps.{fault_stop-memory}
 
--- a load changes no other count
-pub later_by_load : (told : Option Outside) (before now : Faults) (result : Result (Vec ℕ Global) LoadFault) → LoadCause told before now result → Later before now
-later_by_load told before now result cause = record { loads = omega arith; files = omega arith; screen = omega arith }
+read_stop : (name : List ℕ) → fault_stop (Read name) ≡ LoadFailed name
+unfolding fault_stop
+read_stop name = refl
 
-pub found_script : (options : Options) (told : Option Outside) (name text : List ℕ) (limit : ℕ) (bytes : Vec ℕ Global) → IfSome told (λ outside. Loads (outside.files text) limit (Ok bytes)) →
-    IfSome told (λ outside. script_obeyed options name (outside.files text) ≡ script_obeyed options name (Some bytes.items))
-found_script options None name text limit bytes loads = loads
-found_script options (Some outside) name text limit bytes loads = ap (λ file. script_obeyed options name file) loads.0
+pub found_script : (vars : List Setting) (session : SessionState) (told : Option Outside) (name text : List ℕ) (limit : ℕ) (bytes : Vec ℕ Global) → IfSome told (λ outside. Loads (outside.files text) limit (Ok bytes)) →
+    IfSome told (λ outside. obeys_file vars session name (outside.files text) ≡ obeys_file vars session name (Some bytes.items))
+found_script vars session None name text limit bytes loads = loads
+found_script vars session (Some outside) name text limit bytes loads = ap (λ file. obeys_file vars session name file) loads.0
 
-pub missing_script : (options : Options) (told : Option Outside) (name text : List ℕ) (limit : ℕ) → IfSome told (λ outside. Loads (outside.files text) limit (Err Missing)) →
-    IfSome told (λ outside. script_obeyed options name (outside.files text) ≡ refused options.log 0 (FileMissing name))
-missing_script options None name text limit loads = loads
-missing_script options (Some outside) name text limit loads = ap (λ file. script_obeyed options name file) loads
+pub missing_script : (vars : List Setting) (session : SessionState) (told : Option Outside) (name text : List ℕ) (limit : ℕ) → IfSome told (λ outside. Loads (outside.files text) limit (Err Missing)) →
+    IfSome told (λ outside. obeys_file vars session name (outside.files text) ≡ refuses session.log 0 (FileMissing name))
+missing_script vars session None name text limit loads = loads
+missing_script vars session (Some outside) name text limit loads = ap (λ file. obeys_file vars session name file) loads
 
-too_long : (options : Options) (name : List ℕ) (file : Option (List ℕ)) → IsSomeAnd file (λ bytes. 1048576 + 1 ≤ length bytes) → script_obeyed options name file ≡ refused options.log 0 ScriptTooLong
-too_long options name None is = absurd is
-too_long options name (Some bytes) is =
+too_long : (vars : List Setting) (session : SessionState) (name : List ℕ) (file : Option (List ℕ)) → IsSomeAnd file (λ bytes. 1048576 + 1 ≤ length bytes) → obeys_file vars session name file ≡ refuses session.log 0 ScriptTooLong
+too_long vars session name None is = absurd is
+too_long vars session name (Some bytes) is =
     let long : nat_lt 1048576 (length bytes) ≡ true = grind (arith, nat_tests) in
     let none : lines_of bytes ≡ Err script.TooLong = rw long refl in rw none refl
 
-pub long_script : (options : Options) (told : Option Outside) (name text : List ℕ) → IfSome told (λ outside. Loads (outside.files text) 1048576 (Err TooLong)) →
-    IfSome told (λ outside. script_obeyed options name (outside.files text) ≡ refused options.log 0 ScriptTooLong)
-long_script options None name text loads = loads
-long_script options (Some outside) name text loads = too_long options name (outside.files text) loads
+pub long_script : (vars : List Setting) (session : SessionState) (told : Option Outside) (name text : List ℕ) → IfSome told (λ outside. Loads (outside.files text) 1048576 (Err TooLong)) →
+    IfSome told (λ outside. obeys_file vars session name (outside.files text) ≡ refuses session.log 0 ScriptTooLong)
+long_script vars session None name text loads = loads
+long_script vars session (Some outside) name text loads = too_long vars session name (outside.files text) loads
 
 -- the load was made, and then the rest
-pub obeyed_file : (options : Options) (told loaded now : Option Outside) (f0 f1 f2 : Faults) (name text : List ℕ) (load : Result (Vec ℕ Global) LoadFault) (rest : Effect Ending) (result : Result Ending Fault) →
-    loaded ≡ told → text ≡ name → LoadCause told f0 f1 load → IfSome told (λ outside. script_obeyed options name (outside.files text) ≡ rest) →
-    Wrote (stop_of options) loaded now f1 f2 rest result → Wrote (stop_of options) told now f0 f2 (input_obeyed options (File name)) result
-obeyed_file options told loaded now f0 f1 f2 name text load rest result same is cause follows done =
-    behind_load name (script_obeyed options name) rest (subst (λ n. IfSome told (λ outside. script_obeyed options name (outside.files n) ≡ rest)) is follows)
-    (later_by_load told f0 f1 load cause) (subst (λ t. Wrote (stop_of options) t now f1 f2 rest result) same done)
+pub obeyed_file : {before loaded now : WorldState} (vars : List Setting) (session : SessionState) (name text : List ℕ) (load : Result (Vec ℕ Global) LoadFault) (rest : Effect Ending) (result : Result Ending Fault) →
+    loaded.told ≡ before.told → text ≡ name → LoadCause before loaded load → IfSome before.told (λ outside. obeys_file vars session name (outside.files text) ≡ rest) →
+    Wrote fault_stop loaded now rest result → Wrote fault_stop before now (obeys_input vars session (File name)) result
+obeyed_file {before = before} vars session name text load rest result same is cause follows done =
+    wrote_after_load name (obeys_file vars session name) rest (subst (λ n. IfSome before.told (λ outside. obeys_file vars session name (outside.files n) ≡ rest)) is follows)
+    same (load_later cause) done
 
-pub failed_load : (options : Options) (told loaded : Option Outside) (f0 f1 : Faults) (name : List ℕ) → options.input ≡ File name →
-    loaded ≡ told → LoadCause told f0 f1 (Err Failed) → Wrote (stop_of options) told loaded f0 f1 (input_obeyed options (File name)) (Err Read)
-failed_load options told loaded f0 f1 name is same cause =
-    rw same (load_failed told name (script_obeyed options name) Read (stop_of-read options ∙ ap (λ input. LoadFailed (script_name input)) is) (later_by_load told f0 f1 (Err Failed) cause) cause.failed)
+pub failed_load : {before loaded : WorldState} (vars : List Setting) (session : SessionState) (name copy : List ℕ) → copy ≡ name → loaded.told ≡ before.told → LoadCause before loaded (Err Failed) →
+    Wrote {A = Ending} fault_stop before loaded (obeys_input vars session (File name)) (Err (Read copy))
+failed_load vars session name copy is same cause =
+    load_failed name (obeys_file vars session name) (Read copy) (read_stop copy ∙ ap LoadFailed is) same (load_later cause) cause.failed
 
-pub wanting_load : (options : Options) (told loaded : Option Outside) (f0 f1 : Faults) (name : List ℕ) (load : Result (Vec ℕ Global) LoadFault) (result : Result Ending Fault) →
-    loaded ≡ told → LoadCause told f0 f1 load → IsErrAnd result (λ y. y ≡ Memory) → Wrote (stop_of options) told loaded f0 f1 (input_obeyed options (File name)) result
-wanting_load options told loaded f0 f1 name load result same cause is =
-    rw (is_error result _ is, same) (load_wanting told (input_obeyed options (File name)) Memory (stop_of-memory options) (later_by_load told f0 f1 load cause))
-
--- the script that the options name was obeyed
-pub obeyed_input : (options : Options) (told now : Option Outside) (f0 f1 : Faults) (name : List ℕ) (result : Result Ending Fault) → options.input ≡ File name →
-    Wrote (stop_of options) told now f0 f1 (input_obeyed options (File name)) result → Wrote (stop_of options) told now f0 f1 (input_obeyed options options.input) result
-obeyed_input options told now f0 f1 name result is done = subst (λ input. Wrote (stop_of options) told now f0 f1 (input_obeyed options input) result) (sym is) done
+pub load_without_memory : {before loaded : WorldState} (vars : List Setting) (session : SessionState) (name : List ℕ) (load : Result (Vec ℕ Global) LoadFault) → loaded.told ≡ before.told →
+    LoadCause before loaded load → Wrote {A = Ending} fault_stop before loaded (obeys_input vars session (File name)) (Err Memory)
+load_without_memory vars session name load same cause = load_out_of_memory (obeys_input vars session (File name)) Memory fault_stop-memory same (load_later cause)
 
 -- bytes that aren't too many have no fault for their length
 put_never : (number : ℕ) (line : Option LogicalLine) (lines : Result (List LogicalLine) ScriptFault) → (lines ≡ Err script.TooLong → ⊥) → put_line number line lines ≡ Err script.TooLong → ⊥

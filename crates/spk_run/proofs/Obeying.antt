@@ -1,146 +1,241 @@
 -- Obeying commands, one after another: what each of them comes to, and what follows it.
-use Rattle.std.proofs.Common.{◌≡◌, ℕ, suc, ◌-◌, ◌≤◌, true, false, cond, List, [], ◌∷◌, Option, Some, None, Result, Ok, Err, refl, ap, subst, ◌∙◌, arith}
+use Rattle.std.proofs.Common.{◌≡◌, ℕ, suc, ◌-◌, ◌≤◌, true, false, cond, List, [], ◌∷◌, Option, Some, None, Result, Ok, Err, Vec, refl, ap, subst, ◌∙◌, arith}
 use Rattle.std.specs.Prelude.{is_some}
-use Rattle.std.specs.Option.{IfSome, IsSomeAnd}
+use Rattle.std.specs.Option.{IfSome, IfNone, IsSomeAnd}
 use Rattle.std.specs.Result.{IfOk, IsErrAnd}
+use Rattle.std.specs.declared.alloc.Global.{Global}
+use Rattle.spk_num.specs.Results.{IsPlainOrMemory}
+use Rattle.spk_num.proofs.ResultLaws.{plain_is}
 use Rattle.spk_script.specs.declared.fault.LineFault.{LineFault}
 use Rattle.spk_script.specs.declared.fault.LineFault.TheVariants as fault
 use Rattle.spk_script.specs.declared.machine.Arrival.{Arrival}
 use Rattle.spk_script.specs.declared.machine.Arrival.TheVariants.{At}
 use Rattle.spk_script.specs.declared.machine.Step.{Step as LineStep}
 use Rattle.spk_script.specs.declared.machine.Step.TheVariants as line
-use Rattle.spk_script.specs.Lines.{LogicalLine, line_numbered}
-use Rattle.spk_script.specs.Faults.{Judged, Answers, is_memory}
 use Rattle.spk_script.specs.declared.setting.Setting.{Setting}
 use Rattle.spk_script.specs.declared.variable.Variable.{Variable}
 use Rattle.spk_script.specs.declared.variable.Variable.TheVariants.{Index}
+use Rattle.spk_script.specs.Faults.{is_memory}
+use Rattle.spk_script.specs.Lines.{LogicalLine, line_numbered}
 use Rattle.spk_script.specs.Machine.{State, Arrived, new_state as new_machine, with_variable, with_new_variable, with_settings, arrive, line_at}
-use Rattle.spk_script.specs.Standing.{StandsAt, arrived_to}
+use Rattle.spk_script.specs.MachineStates.{StandsAt, arrived_to}
 use Rattle.spk_script.proofs.Arriving.{CountsAt, arrived_counts}
+use Rattle.spk_cmds.specs.Faults.{is_memory as is_words_memory}
 use Rattle.spk_cmds.specs.declared.command.Command.{Command}
 use Rattle.spk_cmds.specs.declared.command.CommandFault.{CommandFault}
 use Rattle.spk_cmds.specs.declared.command.CommandFault.TheVariants as command
-use Rattle.spk_cmds.specs.declared.options.Options.{Options}
-use Rattle.spk_cmds.specs.Judging.{Judged as Read, Answers as Reads, is_memory as wants_memory}
 use Rattle.spk_world.specs.Outside.{Outside}
-use Rattle.spk_world.specs.Causes.{Faults}
-use Rattle.spk_world.specs.Effects.{Effect, ◌>>=◌, answers, WriteFailed, Wrote}
-use Rattle.spk_world.proofs.EffectLaws.{wrote_then, wrote_failed, wrote_answer, wrote_whole, wrote_fault}
-use Rattle.spk_run.specs.declared.answer.Cause.{Cause}
+use Rattle.spk_world.specs.States.{Faults, WorldState}
+use Rattle.spk_world.specs.Causes.{Rose, Later, LoadCause}
+use Rattle.spk_world.specs.declared.world.LoadFault.{LoadFault}
+use Rattle.spk_world.specs.Effects.{Effect, ◌>>=◌, answers, Stop, OutOfMemory, Stands, Wrote}
+use Rattle.spk_world.proofs.EffectLaws.{wrote_then, wrote_failed, wrote_answer, wrote_nothing, wrote_mapped, rose_later, later_later, later_same}
+use Rattle.spk_world.proofs.LoadLaws.{load_later}
+use Rattle.spk_run.specs.declared.cause.Cause.{Cause}
+use Rattle.spk_run.specs.declared.cause.Cause.TheVariants.{ScriptTooLong, FileMissing}
 use Rattle.spk_run.specs.declared.answer.Ending.{Ending}
-use Rattle.spk_run.specs.declared.answer.Target.{Target}
-use Rattle.spk_run.specs.Endings.{place_of_target}
-use Rattle.spk_run.specs.declared.commands.Step.{Step}
-use Rattle.spk_run.specs.declared.commands.Step.TheVariants.{Goes, Ends}
+use Rattle.spk_run.specs.declared.answer.Ending.TheVariants.{Done, Refused}
+use Rattle.spk_run.specs.declared.script.Progress.{Progress}
+use Rattle.spk_run.specs.declared.script.Progress.TheVariants as progress
 use Rattle.spk_run.specs.declared.state.SessionState.{SessionState}
-use Rattle.spk_run.specs.declared.trouble.Fault.{Fault}
-use Rattle.spk_run.specs.declared.trouble.Fault.TheVariants.{Write, Memory}
-use Rattle.spk_run.specs.declared.trouble.WriteTrouble.{WriteTrouble}
-use Rattle.spk_run.specs.declared.trouble.Trouble.{Trouble}
-use Rattle.spk_run.specs.declared.trouble.Trouble.TheVariants as trouble
-use Rattle.spk_run.specs.Output.{refused}
-use Rattle.spk_run.specs.Session.{obeyed}
-use Rattle.spk_run.specs.Plain.{Passed, Onward, cause_of_fault, cause_of_words, ended_for, command_obeyed, words_obeyed, line_done, arrival_obeyed, next_obeyed, gone_on, commands_obeyed}
-use Rattle.spk_run.specs.Passing.{passed_to, IsStep, IsPassed}
-use Rattle.spk_run.specs.Troubles.{write_stop, stop_of, trouble_stop}
-use Rattle.spk_run.proofs.Steps.{wanting}
+use Rattle.spk_run.specs.declared.fault.Fault.{Fault}
+use Rattle.spk_run.specs.declared.fault.Fault.TheVariants.{Memory}
+use Rattle.spk_run.specs.Causes.{line_cause, words_cause, IsOfState, FileRefusalRose}
+use Rattle.spk_run.specs.Commands.{obeys}
+use Rattle.spk_run.specs.Endings.{refuses, EndingFileCause}
+use Rattle.spk_run.specs.Faults.{fault_stop}
+use Rattle.spk_run.specs.Plain.{Course, GoesOn, Ends, ends_for, obeys_command, obeys_words, obeys_step, obeys_arrival, obeys_next, goes_on_by, obeys_commands}
+use Rattle.spk_run.specs.Scripts.{course_to, ProgressFileCause, CountsOn, IsOneTooMany}
+use Rattle.spk_run.proofs.CommandSteps.{fault_stop-memory}
+
+-- out of memory before anything was written
+pub stops_for_memory : {A : Type 0} {state : WorldState} {effect : Effect A} {result : Result A Fault} → IsErrAnd result (λ e. e ≡ Memory) →
+    Wrote fault_stop state state effect result
+stops_for_memory is = wrote_nothing Memory is fault_stop-memory
+
+pub out_of_memory : {A : Type 0} {state : WorldState} {effect : Effect A} → Wrote fault_stop state state effect (Err Memory)
+out_of_memory = wrote_nothing {result = Err Memory} Memory refl fault_stop-memory
+
+-- a cause in the state is none in a file
+pub of_state_rose : (before now : Faults) (cause : Cause) → IsOfState cause → FileRefusalRose before now cause
+of_state_rose before now (FileMissing name) is = absurd is
+of_state_rose before now ScriptTooLong is = absurd is
+of_state_rose before now cause is = tt
+
+-- a count that rose has risen as well by a later time, and from an earlier one on
+rose_earlier : (a b c : ℕ) → a ≤ b → Rose b c → Rose a c
+rose_earlier a b c le rose = omega arith
+
+pub refusal_later : (before now later : Faults) (cause : Cause) → Later now later → FileRefusalRose before now cause → FileRefusalRose before later cause
+refusal_later before now later (FileMissing name) after rose = rose_later before.loads now.loads later.loads rose after.loads
+refusal_later before now later ScriptTooLong after rose = rose_later before.loads now.loads later.loads rose after.loads
+refusal_later before now later cause after rose = tt
+
+refusal_earlier : (before now later : Faults) (cause : Cause) → Later before now → FileRefusalRose now later cause → FileRefusalRose before later cause
+refusal_earlier before now later (FileMissing name) first rose = rose_earlier before.loads now.loads later.loads first.loads rose
+refusal_earlier before now later ScriptTooLong first rose = rose_earlier before.loads now.loads later.loads first.loads rose
+refusal_earlier before now later cause first rose = tt
+
+ending_earlier : (before now later : Faults) (result : Result Ending Fault) → Later before now → IfOk result (EndingFileCause now later) → IfOk result (EndingFileCause before later)
+ending_earlier before now later (Ok Done) first rose = tt
+ending_earlier before now later (Ok (Refused number cause)) first rose = refusal_earlier before now later cause first rose
+ending_earlier before now later (Err fault) first rose = tt
+
+progress_earlier : (before now later : Faults) (result : Result Progress Fault) → Later before now → IfOk result (ProgressFileCause now later) → IfOk result (ProgressFileCause before later)
+progress_earlier before now later (Ok progress.GoesOn) first rose = tt
+progress_earlier before now later (Ok (progress.Ends ending)) first rose = ending_earlier before now later (Ok ending) first rose
+progress_earlier before now later (Err fault) first rose = tt
+
+-- From a start on no count of faults fell, and where nothing was told then, nothing is told now.
+pub record Since (start now : WorldState) : Type 0 where
+  pub later : Later start.faults now.faults
+  pub untold : IfNone start.told (now.told ≡ None)
+
+untold_same : (told now : Option Outside) → now ≡ told → IfNone told (now ≡ None)
+untold_same None now same = same
+untold_same (Some outside) now same = tt
+
+untold_after : {A E : Type 0} (stop : E → Stop) (start now later : Option Outside) (effect : Effect A) (result : Result A E) →
+    IfNone start (now ≡ None) → Stands stop now later effect result → IfNone start (later ≡ None)
+untold_after stop None now later effect result is stands = subst (λ told. Stands stop told later effect result) is stands
+untold_after stop (Some outside) now later effect result is stands = tt
+
+pub since_start : {state : WorldState} → Since state state
+since_start {state = state} = record { later = later_same state.faults; untold = untold_same state.told state.told refl }
+
+pub since_wrote : {A E : Type 0} {stop : E → Stop} {start now later : WorldState} {effect : Effect A} {result : Result A E} →
+    Since start now → Wrote stop now later effect result → Since start later
+since_wrote {stop = stop} {start = start} {now = now} {later = later} {effect = effect} {result = result} since done = record {
+  later = later_later start.faults now.faults later.faults since.later done.later;
+  untold = untold_after stop start.told now.told later.told effect result since.untold done.stands;
+}
+
+pub since_load : {before now : WorldState} {result : Result (Vec ℕ Global) LoadFault} → now.told ≡ before.told → LoadCause before now result → Since before now
+since_load {before = before} {now = now} same cause = record { later = load_later cause; untold = untold_same before.told now.told same }
+
+untold_by_cases : (start now : Option Outside) (P Q : Type 0) → (P → Q) → IfNone start (now ≡ None) → IfNone now P → IfNone start Q
+untold_by_cases None now P Q follows is holds = follows (subst (λ told. IfNone told P) is holds)
+untold_by_cases (Some outside) now P Q follows is holds = tt
+
+-- what is said of files since a later time holds from an earlier one on
+pub progress_since : {start now : WorldState} (later : Faults) (result : Result Progress Fault) → Since start now →
+    IfNone now.told (IfOk result (ProgressFileCause now.faults later)) → IfNone start.told (IfOk result (ProgressFileCause start.faults later))
+progress_since {start = start} {now = now} later result since holds =
+    untold_by_cases start.told now.told _ _ (progress_earlier start.faults now.faults later result since.later) since.untold holds
+
+pub ending_since : {start now : WorldState} (later : Faults) (result : Result Ending Fault) → Since start now →
+    IfNone now.told (IfOk result (EndingFileCause now.faults later)) → IfNone start.told (IfOk result (EndingFileCause start.faults later))
+ending_since {start = start} {now = now} later result since holds =
+    untold_by_cases start.told now.told _ _ (ending_earlier start.faults now.faults later result since.later) since.untold holds
+
+-- a script that was refused ends so for the cause that was given
+pub ended_rose : (before now : Faults) (number : ℕ) (cause : Cause) (result : Result Progress Fault) → FileRefusalRose before now cause →
+    IfOk result (λ p. p ≡ progress.Ends (Refused number cause)) → IfOk result (ProgressFileCause before now)
+ended_rose before now number cause (Ok p) rose is = rw is rose
+ended_rose before now number cause (Err fault) rose is = tt
+
+pub refused_rose : (before now : Faults) (number : ℕ) (cause : Cause) (result : Result Ending Fault) → FileRefusalRose before now cause →
+    IfOk result (λ ending. ending ≡ Refused number cause) → IfOk result (EndingFileCause before now)
+refused_rose before now number cause (Ok ending) rose is = rw is rose
+refused_rose before now number cause (Err fault) rose is = tt
+
+if_none : (told : Option Outside) (P Q : Type 0) → (P → Q) → IfNone told P → IfNone told Q
+if_none None P Q follows holds = follows holds
+if_none (Some outside) P Q follows holds = tt
+
+-- the refusal is written after the count rose
+pub ended_later : (before now later : WorldState) (number : ℕ) (cause : Cause) (result : Result Progress Fault) →
+    IfNone before.told (FileRefusalRose before.faults now.faults cause) → Later now.faults later.faults → IfOk result (λ p. p ≡ progress.Ends (Refused number cause)) →
+    IfNone before.told (IfOk result (ProgressFileCause before.faults later.faults))
+ended_later before now later number cause result rose after is =
+    if_none before.told _ _ (λ risen. ended_rose before.faults later.faults number cause result (refusal_later before.faults now.faults later.faults cause after risen) is) rose
+
+pub refused_later : (before now later : WorldState) (number : ℕ) (cause : Cause) (result : Result Ending Fault) →
+    IfNone before.told (FileRefusalRose before.faults now.faults cause) → Later now.faults later.faults → IfOk result (λ ending. ending ≡ Refused number cause) →
+    IfNone before.told (IfOk result (EndingFileCause before.faults later.faults))
+refused_later before now later number cause result rose after is =
+    if_none before.told _ _ (λ risen. refused_rose before.faults later.faults number cause result (refusal_later before.faults now.faults later.faults cause after risen) is) rose
+
+-- what holds anyhow holds where nothing is told
+pub holds_untold : (told : Option Outside) (P : Type 0) → P → IfNone told P
+holds_untold None P holds = holds
+holds_untold (Some outside) P holds = tt
+
+-- no arrival is counted where a script has ended
+pub ended_counts : (before now : State) (number : ℕ) (cause : Cause) (result : Result Progress Fault) →
+    IfOk result (λ p. p ≡ progress.Ends (Refused number cause)) → IfOk result (CountsOn before now)
+ended_counts before now number cause (Ok p) is = rw is tt
+ended_counts before now number cause (Err fault) is = tt
+
+-- the only fault of an arrival is that it is one too many
+pub one_too_many : (lines : List LogicalLine) (state : State) (fault : LineFault) → StandsAt lines state (Err fault) → IsOneTooMany fault
+one_too_many lines state (fault.TooManyCommands number) stands = tt
+one_too_many lines state fault stands = absurd stands
 
 -- a script that was refused has ended
-pub ended_whole : (options : Options) (told now : Option Outside) (f0 f1 : Faults) (state : State) (session : SessionState) (number : ℕ) (cause : Cause) (ending : Ending) →
-    Wrote (stop_of options) told now f0 f1 (refused options.log number cause) (Ok ending) →
-    Wrote (stop_of options) told now f0 f1 (ended_for options.log number (Some cause)) (passed_to state session (Ok (Ends ending)))
-ended_whole options told now f0 f1 state session number cause ending done = wrote_then _ done wrote_answer
+pub ended_whole : {before now : WorldState} {ending : Ending} (state : State) (session : SessionState) (number : ℕ) (cause : Cause) →
+    Wrote fault_stop before now (refuses session.log number cause) (Ok ending) →
+    Wrote fault_stop before now (ends_for session number (Some cause)) (course_to state session (Ok (progress.Ends ending)))
+ended_whole state session number cause done = wrote_mapped Ends done
 
-pub ended_not : (options : Options) (told now : Option Outside) (f0 f1 : Faults) (state : State) (session : SessionState) (number : ℕ) (cause : Cause) (stopped : Fault) (result : Result Step Fault) →
-    IsErrAnd result (λ t. t ≡ stopped) → Wrote (stop_of options) told now f0 f1 (refused options.log number cause) (Err stopped) →
-    Wrote (stop_of options) told now f0 f1 (ended_for options.log number (Some cause)) (passed_to state session result)
-ended_not options told now f0 f1 state session number cause stopped (Ok step) is failed = absurd is
-ended_not options told now f0 f1 state session number cause stopped (Err t) is failed = wrote_failed {result = Err t} _ is failed
+pub ended_not : {before now : WorldState} {stopped : Fault} (state : State) (session : SessionState) (number : ℕ) (cause : Cause) (result : Result Progress Fault) →
+    IsErrAnd result (λ t. t ≡ stopped) → Wrote fault_stop before now (refuses session.log number cause) (Err stopped) →
+    Wrote fault_stop before now (ends_for session number (Some cause)) (course_to state session result)
+ended_not state session number cause (Ok progress) is failed = absurd is
+ended_not state session number cause (Err t) is failed = wrote_failed {result = Err t} _ is failed
 
--- a fault that isn't want of memory has a cause, and the other way round
-no_memory : (fault : LineFault) (cause : Cause) → cause_of_fault fault ≡ Some cause → is_memory fault ≡ false
-no_memory fault.LineTooLong cause is = refl
-no_memory (fault.TooManyCommands number) cause is = refl
-no_memory (fault.UnknownVariable name) cause is = refl
-no_memory fault.WrongWords cause is = refl
-no_memory (fault.BadName word) cause is = refl
-no_memory (fault.BadFormula place) cause is = refl
-no_memory fault.Inexact cause is = refl
-no_memory fault.NumberTooLarge cause is = refl
-no_memory fault.LoopValue cause is = refl
-no_memory (fault.NotStepped name) cause is = refl
-no_memory fault.OtherFile cause is = refl
-no_memory (fault.NoSuchLabel label) cause is = refl
-no_memory (fault.BadStyle word) cause is = refl
+-- a fault that is not out of memory has a cause, and the other way round
+no_memory : (fault : LineFault) (cause : Cause) → line_cause fault ≡ Some cause → is_memory fault ≡ false
 no_memory fault.Memory cause is = cc
+no_memory fault cause is = refl
 
-no_memory_in_words : (fault : CommandFault) (cause : Cause) → cause_of_words fault ≡ Some cause → wants_memory fault ≡ false
-no_memory_in_words (command.UnknownCommand word) cause is = refl
-no_memory_in_words (command.UnknownStyle word) cause is = refl
-no_memory_in_words command.WrongCount cause is = refl
-no_memory_in_words (command.BadNumber word) cause is = refl
-no_memory_in_words (command.OutOfRange word) cause is = refl
-no_memory_in_words (command.NotBuilt word) cause is = refl
-no_memory_in_words (command.BadName word) cause is = refl
+no_memory_in_words : (fault : CommandFault) (cause : Cause) → words_cause fault ≡ Some cause → is_words_memory fault ≡ false
 no_memory_in_words command.Memory cause is = cc
+no_memory_in_words fault cause is = refl
 
 -- a line that is refused for a cause
-pub refused_line : (log : Option (List ℕ)) (number : ℕ) (session : SessionState) (plain : Judged (LineStep × State)) (fault : LineFault) (cause : Cause) →
-    Answers plain (Err fault) → cause_of_fault fault ≡ Some cause → line_done log number session plain ≡ ended_for log number (Some cause)
-unfolding Answers
-refused_line log number session plain fault cause failed is = rw (failed (no_memory fault cause is)) (ap (ended_for log number) is)
+pub refused_line : (number : ℕ) (session : SessionState) (plain : Result (LineStep × State) LineFault) (fault : LineFault) (cause : Cause) →
+    IsPlainOrMemory is_memory plain (Err fault) → line_cause fault ≡ Some cause → obeys_step number session plain ≡ ends_for session number (Some cause)
+unfolding IsPlainOrMemory
+refused_line number session plain fault cause failed is = rw (failed (no_memory fault cause is)) (ap (ends_for session number) is)
 
 -- words that are refused for one
-pub refused_words : (log : Option (List ℕ)) (number : ℕ) (state : State) (session : SessionState) (plain : Read Command) (fault : CommandFault) (cause : Cause) →
-    Reads plain (Err fault) → cause_of_words fault ≡ Some cause → command_obeyed log number state session plain ≡ ended_for log number (Some cause)
-unfolding Reads
-refused_words log number state session plain fault cause failed is = rw (failed (no_memory_in_words fault cause is)) (ap (ended_for log number) is)
+pub refused_words : (number : ℕ) (state : State) (session : SessionState) (plain : Result Command CommandFault) (fault : CommandFault) (cause : Cause) →
+    IsPlainOrMemory is_words_memory plain (Err fault) → words_cause fault ≡ Some cause → obeys_command number state session plain ≡ ends_for session number (Some cause)
+unfolding IsPlainOrMemory
+refused_words number state session plain fault cause failed is = rw (failed (no_memory_in_words fault cause is)) (ap (ends_for session number) is)
 
-pub read_words : (log : Option (List ℕ)) (number : ℕ) (state : State) (session : SessionState) (plain : Read Command) (made : Command) →
-    Reads plain (Ok made) → command_obeyed log number state session plain ≡ command_obeyed log number state session (Ok made)
-unfolding Reads
-read_words log number state session plain made is = ap (command_obeyed log number state session) is
+pub read_words : (number : ℕ) (state : State) (session : SessionState) (plain : Result Command CommandFault) (made : Command) →
+    IsPlainOrMemory is_words_memory plain (Ok made) → obeys_command number state session plain ≡ obeys_command number state session (Ok made)
+read_words number state session plain made is = ap (obeys_command number state session) (plain_is is_words_memory plain made is)
 
 -- a line that the machine obeyed, and one whose words it handed on
-pub own_line : (log : Option (List ℕ)) (number : ℕ) (session : SessionState) (plain : Judged (LineStep × State)) (own : ℕ) (state : State) →
-    Answers plain (Ok (line.Own own, state)) → line_done log number session plain ≡ answers (Onward state session)
-unfolding Answers
-own_line log number session plain own state is = rw is refl
+pub own_line : (number : ℕ) (session : SessionState) (plain : Result (LineStep × State) LineFault) (own : ℕ) (state : State) →
+    IsPlainOrMemory is_memory plain (Ok (line.Own own, state)) → obeys_step number session plain ≡ answers (GoesOn state session)
+own_line number session plain own state is = rw (plain_is is_memory plain (line.Own own, state) is) refl
 
-pub words_line : (log : Option (List ℕ)) (number : ℕ) (session : SessionState) (plain : Judged (LineStep × State)) (own : ℕ) (words : List (List ℕ)) (state : State) →
-    Answers plain (Ok (line.Words own words, state)) → line_done log number session plain ≡ words_obeyed log own state session words
-unfolding Answers
-words_line log number session plain own words state is = rw is refl
+pub words_line : (number : ℕ) (session : SessionState) (plain : Result (LineStep × State) LineFault) (own : ℕ) (words : List (List ℕ)) (state : State) →
+    IsPlainOrMemory is_memory plain (Ok (line.Words own words, state)) → obeys_step number session plain ≡ obeys_words own state session words
+words_line number session plain own words state is = rw (plain_is is_memory plain (line.Words own words, state) is) refl
 
 -- a command was obeyed, refused, or stopped
-pub command_whole : (options : Options) (told now : Option Outside) (f0 f1 : Faults) (state : State) (session next : SessionState) (number : ℕ) (made : Command) →
-    Wrote trouble_stop told now f0 f1 (obeyed session made) (Ok (Ok next)) →
-    Wrote (stop_of options) told now f0 f1 (command_obeyed options.log number state session (Ok made)) (Ok (Onward state next))
-command_whole options told now f0 f1 state session next number made done = wrote_then _ (wrote_whole done) wrote_answer
+pub command_whole : {before now : WorldState} (state : State) (session next : SessionState) (number : ℕ) (made : Command) →
+    Wrote fault_stop before now (obeys session made) (Ok (Ok next)) →
+    Wrote fault_stop before now (obeys_command number state session (Ok made)) (Ok (GoesOn state next))
+command_whole state session next number made done = wrote_then _ done wrote_answer
 
-pub command_refused : (options : Options) (told mid now : Option Outside) (f0 f1 f2 : Faults) (state : State) (session next : SessionState) (number : ℕ) (made : Command) (cause : Cause) (result : Result Step Fault) →
-    Wrote trouble_stop told mid f0 f1 (obeyed session made) (Ok (Err cause)) →
-    Wrote (stop_of options) mid now f1 f2 (ended_for options.log number (Some cause)) (passed_to state next result) →
-    Wrote (stop_of options) told now f0 f2 (command_obeyed options.log number state session (Ok made)) (passed_to state next result)
-command_refused options told mid now f0 f1 f2 state session next number made cause result done ended = wrote_then _ (wrote_whole done) ended
+pub command_refused : {before now later : WorldState} (state : State) (session next : SessionState) (number : ℕ) (made : Command) (cause : Cause) (result : Result Progress Fault) →
+    next ≡ session → Wrote fault_stop before now (obeys session made) (Ok (Err cause)) →
+    Wrote fault_stop now later (ends_for next number (Some cause)) (course_to state next result) →
+    Wrote fault_stop before later (obeys_command number state session (Ok made)) (course_to state next result)
+command_refused {now = now} {later = later} state session next number made cause result same done ended =
+    wrote_then _ done (subst (λ (s : SessionState). Wrote fault_stop now later (ends_for s number (Some cause)) (course_to state next result)) same ended)
 
-pub command_stopped : (options : Options) (told now : Option Outside) (f0 f1 : Faults) (state : State) (session next : SessionState) (number : ℕ) (made : Command) (stopped : Trouble) (fault : Fault) →
-    stop_of options fault ≡ trouble_stop stopped → Wrote trouble_stop told now f0 f1 (obeyed session made) (Err stopped) →
-    Wrote (stop_of options) told now f0 f1 (command_obeyed options.log number state session (Ok made)) (passed_to state next (Err fault))
-command_stopped options told now f0 f1 state session next number made stopped fault same front = wrote_failed {result = Err fault} _ refl (wrote_fault stopped same front)
-
--- a write that failed, and want of memory
-pub write_stopped : (options : Options) (written : WriteTrouble) (at : Target) → write_stop options.log written ≡ WriteFailed (place_of_target at) → stop_of options (Write written) ≡ trouble_stop (trouble.WriteFault at)
-unfolding stop_of trouble_stop
-write_stopped options written at is = is
-
-pub memory_stopped : (options : Options) → stop_of options Memory ≡ trouble_stop trouble.Memory
-unfolding stop_of trouble_stop
-memory_stopped options = refl
-
--- memory was wanting at a line
-pub wanting_line : {A : Type 0} (options : Options) (told : Option Outside) (faults : Faults) (effect : Effect A) → Wrote (stop_of options) told told faults faults effect (Err Memory)
-wanting_line options told faults effect = wanting options {result = Err Memory} refl
+pub command_stopped : {before now : WorldState} {stopped : Fault} (state : State) (session next : SessionState) (number : ℕ) (made : Command) (result : Result Progress Fault) →
+    IsErrAnd result (λ t. t ≡ stopped) → Wrote {A = Result SessionState Cause} fault_stop before now (obeys session made) (Err stopped) →
+    Wrote fault_stop before now (obeys_command number state session (Ok made)) (course_to state next result)
+command_stopped state session next number made (Ok progress) is failed = absurd is
+command_stopped state session next number made (Err t) is failed = wrote_failed {result = Err t} _ is failed
 
 -- the line at which a machine stands
 pub record Found (lines : List LogicalLine) (state : State) (number : ℕ) : Type 0 where
@@ -161,38 +256,38 @@ pub some_holds : (at : Option LogicalLine) (P : LogicalLine → Type 0) (line : 
 some_holds None P line is holds = absurd (cc is)
 some_holds (Some other) P line is holds = let same : other ≡ line = cc is in subst P same holds
 
-pub passed_err : (state : State) (session : SessionState) (result : Result Step Fault) (P : Fault → Type 0) → IsErrAnd result P → IsErrAnd (passed_to state session result) P
-passed_err state session (Ok step) P is = absurd is
-passed_err state session (Err stopped) P is = is
+pub course_err : (state : State) (session : SessionState) (result : Result Progress Fault) (P : Fault → Type 0) → IsErrAnd result P → IsErrAnd (course_to state session result) P
+course_err state session (Ok progress) P is = absurd is
+course_err state session (Err stopped) P is = is
 
--- what follows of an arrival
-pub next_by : (log : Option (List ℕ)) (lines : List LogicalLine) (state now : State) (session : SessionState) (answer : Judged Arrival) →
-    arrive lines state ≡ arrived_to now answer → next_obeyed log lines state session ≡ arrival_obeyed log lines now session answer
-next_by log lines state now session answer is = ap (λ (a : Arrived). arrival_obeyed log lines a.state session a.answer) is
+-- what follows an arrival
+next_by : (lines : List LogicalLine) (state now : State) (session : SessionState) (answer : Result Arrival LineFault) →
+    arrive lines state ≡ arrived_to now answer → obeys_next lines state session ≡ obeys_arrival lines now session answer
+next_by lines state now session answer is = ap (λ (a : Arrived). obeys_arrival lines a.state session a.answer) is
 
-pub next_arrived : (options : Options) (told now : Option Outside) (f0 f1 : Faults) (lines after : List LogicalLine) (state mid : State) (session : SessionState) (answer got : Judged Arrival) (result : Result Passed Fault) →
-    after ≡ lines → arrive lines state ≡ arrived_to mid answer → answer ≡ got → Wrote (stop_of options) told now f0 f1 (arrival_obeyed options.log after mid session got) result →
-    Wrote (stop_of options) told now f0 f1 (next_obeyed options.log lines state session) result
-next_arrived options told now f0 f1 lines after state mid session answer got result same arrives is done =
-    rw (next_by options.log lines state mid session answer arrives, is) (rw same at done)
+pub next_arrived : {before now : WorldState} (lines after : List LogicalLine) (state mid : State) (session : SessionState) (answer got : Result Arrival LineFault) (result : Result Course Fault) →
+    after ≡ lines → arrive lines state ≡ arrived_to mid answer → answer ≡ got → Wrote fault_stop before now (obeys_arrival after mid session got) result →
+    Wrote fault_stop before now (obeys_next lines state session) result
+next_arrived lines after state mid session answer got result same arrives is done =
+    rw (next_by lines state mid session answer arrives, is) (rw same at done)
 
 -- an arrival that was counted, or one too many
-pub counted_at : (lines : List LogicalLine) (state mid : State) (answer got : Judged Arrival) → arrive lines state ≡ arrived_to mid answer → answer ≡ got → CountsAt state mid got
+pub counted_at : (lines : List LogicalLine) (state mid : State) (answer got : Result Arrival LineFault) → arrive lines state ≡ arrived_to mid answer → answer ≡ got → CountsAt state mid got
 counted_at lines state mid answer got arrives is = subst (CountsAt state mid) is (arrived_counts lines state mid answer arrives)
 
--- a step behind an arrival that was counted
-pub passed_step : (before mid now : State) (number : ℕ) (result : Result Step Fault) →
-    CountsAt before mid (Ok (At number)) → now.arrivals ≡ mid.arrivals → IfOk result IsStep → IfOk result (IsPassed before now)
-passed_step before mid now number (Ok Goes) counts same step =
+-- where a script goes on after an arrival that was counted
+pub counts_on : (before mid now : State) (number : ℕ) (result : Result Progress Fault) →
+    CountsAt before mid (Ok (At number)) → now.arrivals ≡ mid.arrivals → IfOk result (CountsOn before now)
+counts_on before mid now number (Ok progress.GoesOn) counts same =
     record { counted = same ∙ counts.0; few = omega (arith, counts.1, same) }
-passed_step before mid now number (Ok (Ends ending)) counts same step = step
-passed_step before mid now number (Err stopped) counts same step = tt
+counts_on before mid now number (Ok (progress.Ends ending)) counts same = tt
+counts_on before mid now number (Err stopped) counts same = tt
 
--- one command of a script, and then those behind it
-pub next_of : (log : Option (List ℕ)) (lines : List LogicalLine) (state : State) (session : SessionState) (arrivals : ℕ) → arrivals ≤ 1000000 →
-    commands_obeyed (1000001 - arrivals) log lines state session ≡ (next_obeyed log lines state session >>= gone_on (commands_obeyed (1000000 - arrivals) log lines))
-unfolding commands_obeyed
-next_of log lines state session arrivals few =
+-- one command of a script, and then those after it
+pub next_of : (lines : List LogicalLine) (state : State) (session : SessionState) (arrivals : ℕ) → arrivals ≤ 1000000 →
+    obeys_commands (1000001 - arrivals) lines state session ≡ (obeys_next lines state session >>= goes_on_by (obeys_commands (1000000 - arrivals) lines))
+unfolding obeys_commands
+next_of lines state session arrivals few =
     let more : 1000001 - arrivals ≡ suc (1000000 - arrivals) = omega (arith, few) in rw more refl
 
 new_variable_arrives : (state : State) (name : List ℕ) (variable : Variable) → (with_new_variable state name variable).arrivals ≡ state.arrivals

@@ -8,117 +8,114 @@ use Rattle.std.proofs.lemmas.List.Concat.{flat_map_single}
 use Rattle.std.proofs.lemmas.List.FromFn.{length-map-range_with_len, get_or-map-range_with_len}
 use Rattle.std.specs.List.{range_with_len}
 use Rattle.spk_run.proofs.Weights.{length-propensities, propensity_at}
-use Rattle.spk_run.specs.declared.sites.Sites.{Sites}
-use Rattle.spk_run.specs.Turn.{SiteEvent, energy_of, weight_of, other_value, propensities_of, target_of, all_events, propensity_of, propensities_of, named_from, named, done, turned, total_of, wait_before, stream_after, after_event, turn_from}
+use Rattle.spk_run.specs.declared.rank_state.RankState.{RankState}
+use Rattle.spk_run.specs.Ising.{chain, flip_of, flipped, whole_chain}
+use Rattle.spk_run.specs.Turns.{Sector, SiteEvent, propensities, target, all_events, propensity, named_from, named, applied, total, wait_before, stream_after, with_accepted, after_event, turn_from}
 
 -- no event is left to do
-pub turn_over : (window local : ℕ) (sites : Sites) → turn_from zero window local sites ≡ sites
+pub turn_over : (sector : Sector) (window local : ℕ) (state : RankState) → turn_from sector zero window local state ≡ state
 unfolding turn_from
-turn_over window local sites = refl
+turn_over sector window local state = refl
 
 -- nothing happens where the total is 0
-pub turn_still : (more window local : ℕ) (sites : Sites) → total_of sites.values ≡ 0 → turn_from (suc more) window local sites ≡ sites
+pub turn_still : (sector : Sector) (more window local : ℕ) (state : RankState) → total sector state.values ≡ 0 → turn_from sector (suc more) window local state ≡ state
 unfolding turn_from
-turn_still more window local sites still =
-    let is : (total_of sites.values == 0) ≡ true = eq-eqb (total_of sites.values) 0 still in
+turn_still sector more window local state still =
+    let is : (total sector state.values == 0) ≡ true = eq-eqb (total sector state.values) 0 still in
     rw is refl
 
 -- the next event would reach the window's end
-pub turn_late : (more window local : ℕ) (sites : Sites)
-    → 0 < total_of sites.values
-    → window ≤ local + wait_before sites
-    → turn_from (suc more) window local sites ≡ record sites { stream = stream_after sites }
+pub turn_late : (sector : Sector) (more window local : ℕ) (state : RankState)
+    → 0 < total sector state.values
+    → window ≤ local + wait_before sector state
+    → turn_from sector (suc more) window local state ≡ record state { stream = stream_after state }
 unfolding turn_from
-turn_late more window local sites some late =
-    let moves : (total_of sites.values == 0) ≡ false = grind (arith, nat_tests) in
-    let ends : nat_le window (local + wait_before sites) ≡ true = grind (arith, nat_tests) in
+turn_late sector more window local state some late =
+    let moves : (total sector state.values == 0) ≡ false = grind (arith, nat_tests) in
+    let ends : nat_le window (local + wait_before sector state) ≡ true = grind (arith, nat_tests) in
     rw (moves, ends) refl
 
 -- it comes before the window's end
-pub turn_goes : (more window local : ℕ) (sites : Sites)
-    → 0 < total_of sites.values
-    → local + wait_before sites < window
-    → turn_from (suc more) window local sites ≡ turn_from more window (local + wait_before sites) (after_event sites)
+pub turn_goes : (sector : Sector) (more window local : ℕ) (state : RankState)
+    → 0 < total sector state.values
+    → local + wait_before sector state < window
+    → turn_from sector (suc more) window local state ≡ turn_from sector more window (local + wait_before sector state) (after_event sector state)
 unfolding turn_from
-turn_goes more window local sites some early =
-    let moves : (total_of sites.values == 0) ≡ false = grind (arith, nat_tests) in
-    let goes : nat_le window (local + wait_before sites) ≡ false = grind (arith, nat_tests) in
+turn_goes sector more window local state some early =
+    let moves : (total sector state.values == 0) ≡ false = grind (arith, nat_tests) in
+    let goes : nat_le window (local + wait_before sector state) ≡ false = grind (arith, nat_tests) in
     rw (moves, goes) refl
 
 -- a target names the event whose weight passes it
 named_at : (events : List SiteEvent) (target so_far at : ℕ) (other : SiteEvent)
     → at < length events
-    → so_far + sum (take at (map (λ (e : SiteEvent). e.weight) events)) ≤ target
-    → target < so_far + sum (take (suc at) (map (λ (e : SiteEvent). e.weight) events))
+    → so_far + sum (take at (map (λ (e : SiteEvent). e.event.weight) events)) ≤ target
+    → target < so_far + sum (take (suc at) (map (λ (e : SiteEvent). e.event.weight) events))
     → named_from so_far target events ≡ Some (get_or events at other)
 named_at [] target so_far at other less not_before passes = absurd (omega arith)
 named_at (e ∷ es) target so_far zero other less not_before passes =
-    let here : nat_lt target (so_far + e.weight) ≡ true = lt-ltb _ _ (omega arith) in
+    let here : nat_lt target (so_far + e.event.weight) ≡ true = lt-ltb _ _ (omega arith) in
     rw here refl
 named_at (e ∷ es) target so_far (suc at) other less not_before passes =
-    let weights : List ℕ = map (λ (e : SiteEvent). e.weight) es in
-    let first : sum (e.weight ∷ take at weights) ≡ e.weight + sum (take at weights) = sum_by-cons (λ w. w) e.weight (take at weights) in
-    let more : sum (e.weight ∷ take (suc at) weights) ≡ e.weight + sum (take (suc at) weights) = sum_by-cons (λ w. w) e.weight (take (suc at) weights) in
-    let not_here : nat_lt target (so_far + e.weight) ≡ false = le-ltb _ _ (omega arith) in
-    rw not_here (named_at es target (so_far + e.weight) at other (omega arith) (omega arith) (omega arith))
+    let weights : List ℕ = map (λ (e : SiteEvent). e.event.weight) es in
+    let first : sum (e.event.weight ∷ take at weights) ≡ e.event.weight + sum (take at weights) = sum_by-cons (λ w. w) e.event.weight (take at weights) in
+    let more : sum (e.event.weight ∷ take (suc at) weights) ≡ e.event.weight + sum (take (suc at) weights) = sum_by-cons (λ w. w) e.event.weight (take (suc at) weights) in
+    let not_here : nat_lt target (so_far + e.event.weight) ≡ false = le-ltb _ _ (omega arith) in
+    rw not_here (named_at es target (so_far + e.event.weight) at other (omega arith) (omega arith) (omega arith))
 
 -- the event of the site at a place
-event_at : List ℕ → ℕ → SiteEvent
-event_at values place = record {
-  place = place;
-  value = other_value (slice_index values place);
-  weight = weight_of (energy_of values place) (energy_of (turned values place) place);
-}
+event_at : ℕ → List ℕ → ℕ → SiteEvent
+event_at sites values place = record { place = place; event = flip_of (chain sites) values place }
 
 -- all events, one for each site
-events_are : (values : List ℕ) → all_events values ≡ map (λ place. event_at values place) (range_with_len 0 (length values))
+events_are : (sites : ℕ) (values : List ℕ) → all_events (whole_chain sites) values ≡ map (λ place. event_at sites values place) (range_with_len 0 sites)
 unfolding event_at
-events_are values = flat_map_single (λ place. event_at values place) (range_with_len 0 (length values))
+events_are sites values = flat_map_single (λ place. event_at sites values place) (range_with_len 0 sites)
 
-length-all_events : (values : List ℕ) → length (all_events values) ≡ length values
-length-all_events values = rw events_are (length-map-range_with_len (λ place. event_at values place) 0 (length values))
+length-all_events : (sites : ℕ) (values : List ℕ) → length (all_events (whole_chain sites) values) ≡ sites
+length-all_events sites values = rw events_are (length-map-range_with_len (λ place. event_at sites values place) 0 sites)
 
-get_or-all_events : (values : List ℕ) (place : ℕ) (other : SiteEvent) → place < length values → get_or (all_events values) place other ≡ event_at values place
-get_or-all_events values place other less =
-    rw events_are (get_or-map-range_with_len (λ at. event_at values at) 0 (length values) place place other less (omega arith))
+get_or-all_events : (sites : ℕ) (values : List ℕ) (place : ℕ) (other : SiteEvent) → place < sites → get_or (all_events (whole_chain sites) values) place other ≡ event_at sites values place
+get_or-all_events sites values place other less =
+    rw events_are (get_or-map-range_with_len (λ at. event_at sites values at) 0 sites place place other less (omega arith))
 
 -- their weights are the propensities
-weight_at : (values : List ℕ) (place : ℕ) → (event_at values place).weight ≡ propensity_of values place
+weight_at : (sites : ℕ) (values : List ℕ) (place : ℕ) → (event_at sites values place).event.weight ≡ propensity (whole_chain sites) values place
 unfolding event_at
-weight_at values place = sym (zero-add (weight_of (energy_of values place) (energy_of (turned values place) place)))
+weight_at sites values place = sym (zero-add (flip_of (chain sites) values place).weight)
 
-weights_are : (values : List ℕ) → map (λ (e : SiteEvent). e.weight) (all_events values) ≡ propensities_of values
-weights_are values =
-    let weights : List ℕ = map (λ (e : SiteEvent). e.weight) (all_events values) in
-    let all : length weights ≡ length values = length-map (all_events values) (λ (e : SiteEvent). e.weight) ∙ length-all_events values in
-    let each : (k : ℕ) → k < length weights → get_or weights k 0 ≡ get_or (propensities_of values) k 0 = λ k less.
-    let there : k < length values = omega arith in
-    let listed : k < length (all_events values) = omega (arith, length-all_events values) in
-    get_or-map (λ (e : SiteEvent). e.weight) (all_events values) k (event_at values k) 0 listed
-    ∙ ap (λ (e : SiteEvent). e.weight) (get_or-all_events values k (event_at values k) there)
-    ∙ weight_at values k
-    ∙ sym (propensity_at values k there) in
-    ext_get_or 0 weights (propensities_of values) (all ∙ sym (length-propensities values)) each
+weights_are : (sites : ℕ) (values : List ℕ) → map (λ (e : SiteEvent). e.event.weight) (all_events (whole_chain sites) values) ≡ propensities (whole_chain sites) values
+weights_are sites values =
+    let weights : List ℕ = map (λ (e : SiteEvent). e.event.weight) (all_events (whole_chain sites) values) in
+    let all : length weights ≡ sites = length-map (all_events (whole_chain sites) values) (λ (e : SiteEvent). e.event.weight) ∙ length-all_events sites values in
+    let each : (k : ℕ) → k < length weights → get_or weights k 0 ≡ get_or (propensities (whole_chain sites) values) k 0 = λ k less.
+    let there : k < sites = omega arith in
+    let listed : k < length (all_events (whole_chain sites) values) = omega (arith, length-all_events sites values) in
+    get_or-map (λ (e : SiteEvent). e.event.weight) (all_events (whole_chain sites) values) k (event_at sites values k) 0 listed
+    ∙ ap (λ (e : SiteEvent). e.event.weight) (get_or-all_events sites values k (event_at sites values k) there)
+    ∙ weight_at sites values k
+    ∙ sym (propensity_at sites values k there) in
+    ext_get_or 0 weights (propensities (whole_chain sites) values) (all ∙ sym (length-propensities sites values)) each
 
--- the event that a target names turns the site whose running sum passes it
-named_turns : (values : List ℕ) (target place : ℕ)
-    → place < length values
-    → sum (take place (propensities_of values)) ≤ target
-    → target < sum (take (place + 1) (propensities_of values))
-    → done (named target (all_events values)) values ≡ turned values place
+-- the event that a target names flips the site whose running sum passes it
+named_flips : (sites : ℕ) (values : List ℕ) (goal_target place : ℕ)
+    → place < sites
+    → sum (take place (propensities (whole_chain sites) values)) ≤ goal_target
+    → goal_target < sum (take (place + 1) (propensities (whole_chain sites) values))
+    → applied (whole_chain sites) values (named goal_target (all_events (whole_chain sites) values)) ≡ flipped values place
 unfolding event_at
-named_turns values target place less not_before passes =
-    let e : SiteEvent = event_at values place in
-    let names : named target (all_events values) ≡ Some (get_or (all_events values) place e) =
-    named_at (all_events values) target 0 place e (omega (arith, length-all_events values))
-    (rw (weights_are values) (omega arith)) (rw (weights_are values, ← add-one place) (omega arith)) in
-    rw (names, get_or-all_events values place e less) refl
+named_flips sites values goal_target place less not_before passes =
+    let e : SiteEvent = event_at sites values place in
+    let names : named goal_target (all_events (whole_chain sites) values) ≡ Some (get_or (all_events (whole_chain sites) values) place e) =
+    named_at (all_events (whole_chain sites) values) goal_target 0 place e (omega (arith, length-all_events sites values))
+    (rw (weights_are sites values) (omega arith)) (rw (weights_are sites values, ← add-one place) (omega arith)) in
+    rw (names, get_or-all_events sites values place e less) refl
 
--- the sites after the event that a target names
-pub after_event_is : (sites : Sites) (place : ℕ)
-    → place < length sites.values
-    → sum (take place (propensities_of sites.values)) ≤ target_of sites
-    → target_of sites < sum (take (place + 1) (propensities_of sites.values))
-    → after_event sites ≡ record { values = turned sites.values place; stream = stream_after sites; accepted = min (sites.accepted + 1) (2 ^ 64 - 1) }
-after_event_is sites place less not_before passes =
-    rw (named_turns sites.values (target_of sites) place less not_before passes) refl
+-- the state after the event that a target names
+pub after_event_is : (sites : ℕ) (state : RankState) (place : ℕ)
+    → place < sites
+    → sum (take place (propensities (whole_chain sites) state.values)) ≤ target (whole_chain sites) state
+    → target (whole_chain sites) state < sum (take (place + 1) (propensities (whole_chain sites) state.values))
+    → after_event (whole_chain sites) state ≡ record { values = flipped state.values place; stream = stream_after state; counts = with_accepted state.counts }
+after_event_is sites state place less not_before passes =
+    rw (named_flips sites state.values (target (whole_chain sites) state) place less not_before passes) refl

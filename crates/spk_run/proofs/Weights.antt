@@ -7,14 +7,15 @@ use Rattle.std.proofs.lemmas.List.FromFn.{length-map-range_with_len, get_or-map-
 use Rattle.std.proofs.lemmas.List.Sums.{sum_by-le, sum_by-set, get_or-le-sum_by, sum_by_push}
 use Rattle.std.proofs.lemmas.List.Elements.{All-append}
 use Rattle.std.specs.List.{All, range_with_len}
-use Rattle.spk_run.specs.Turn.{energy_of, weight_of, turned, propensity_of, propensities_of, other_value}
+use Rattle.spk_run.specs.Ising.{chain, energy_of, weight_of, flipped, other_value, whole_chain}
+use Rattle.spk_run.specs.Turns.{propensity, propensities}
 
--- the place behind, and the place before, by cases
-behind_inside : (sites place : ℕ) → place + 1 < sites → (place + 1) % sites ≡ place + 1
-behind_inside sites place less = mod-eq_of_lt less
+-- the place after, and the place before, by cases
+after_inside : (sites place : ℕ) → place + 1 < sites → (place + 1) % sites ≡ place + 1
+after_inside sites place less = mod-eq_of_lt less
 
-behind_last : (sites place : ℕ) → place + 1 ≡ sites → (place + 1) % sites ≡ 0
-behind_last sites place is = rw is (mod_self sites)
+after_last : (sites place : ℕ) → place + 1 ≡ sites → (place + 1) % sites ≡ 0
+after_last sites place is = rw is (mod_self sites)
 
 before_first : (sites : ℕ) → 0 < sites → (0 + sites - 1) % sites ≡ sites - 1
 before_first sites some =
@@ -29,16 +30,16 @@ before_inside sites place above less =
     rw (is, add-mod_right (place - 1) sites) (mod-eq_of_lt small)
 
 -- a site that is not this one nor its neighbour has not this one as a neighbour
-far_behind : (sites place other : ℕ)
+far_after : (sites place other : ℕ)
     → place < sites
     → other < sites
     → other ≢ (place + sites - 1) % sites
     → (other + 1) % sites ≢ place
-far_behind sites place other less within not_before reached =
+far_after sites place other less within not_before reached =
     let not_first : 0 < place → (place + sites - 1) % sites ≡ place - 1 = λ above. before_inside sites place above less in
     let first : place ≡ 0 → (place + sites - 1) % sites ≡ sites - 1 = λ is. rw is (before_first sites (omega arith)) in
-    let inside : other + 1 < sites → (other + 1) % sites ≡ other + 1 = behind_inside sites other in
-    let last : other + 1 ≡ sites → (other + 1) % sites ≡ 0 = behind_last sites other in
+    let inside : other + 1 < sites → (other + 1) % sites ≡ other + 1 = after_inside sites other in
+    let last : other + 1 ≡ sites → (other + 1) % sites ≡ 0 = after_last sites other in
     grind arith
 
 far_before : (sites place other : ℕ)
@@ -46,9 +47,9 @@ far_before : (sites place other : ℕ)
     → other < sites
     → other ≢ (place + 1) % sites
     → (other + sites - 1) % sites ≢ place
-far_before sites place other less within not_behind reached =
-    let inside : place + 1 < sites → (place + 1) % sites ≡ place + 1 = behind_inside sites place in
-    let last : place + 1 ≡ sites → (place + 1) % sites ≡ 0 = behind_last sites place in
+far_before sites place other less within not_after reached =
+    let inside : place + 1 < sites → (place + 1) % sites ≡ place + 1 = after_inside sites place in
+    let last : place + 1 ≡ sites → (place + 1) % sites ≡ 0 = after_last sites place in
     let not_first : 0 < other → (other + sites - 1) % sites ≡ other - 1 = λ above. before_inside sites other above within in
     let first : other ≡ 0 → (other + sites - 1) % sites ≡ sites - 1 = λ is. rw is (before_first sites (omega arith)) in
     grind arith
@@ -59,77 +60,76 @@ get_or-set xs at value place less = grind (arith, get_or-set_same, get_or-set_ot
 
 -- the energy of a site with this value, by the values of its neighbours
 abbrev energy_by : ℕ → ℕ → ℕ → ℕ
-energy_by own before behind = 0 + cond (not (before == own)) 1 0 + cond (not (behind == own)) 1 0
+energy_by own before after = 0 + cond (not (before == own)) 1 0 + cond (not (after == own)) 1 0
 
 -- the value that is read at a neighbour, where the site that was given a value may be its own neighbour
 abbrev seen : ℕ → ℕ → ℕ → ℕ → ℕ
 seen neighbour place value was = if neighbour == place then value else was
 
-energy_of-set : (values : List ℕ) (place value : ℕ)
+energy_of-set : (sites : ℕ) (values : List ℕ) (place value : ℕ)
     → place < length values
-    → energy_of (set values place value) place
+    → energy_of (chain sites) (set values place value) place
     ≡ energy_by value
-    (seen ((place + length values - 1) % length values) place value (get_or values ((place + length values - 1) % length values) 0))
-    (seen ((place + 1) % length values) place value (get_or values ((place + 1) % length values) 0))
-energy_of-set values place value less =
+    (seen ((place + sites - 1) % sites) place value (get_or values ((place + sites - 1) % sites) 0))
+    (seen ((place + 1) % sites) place value (get_or values ((place + 1) % sites) 0))
+energy_of-set sites values place value less =
     rw (
-      length-set values place value,
-      get_or-set values place value ((place + length values - 1) % length values) less,
-      get_or-set values place value ((place + 1) % length values) less,
+      get_or-set values place value ((place + sites - 1) % sites) less,
+      get_or-set values place value ((place + 1) % sites) less,
       get_or-set_same values place value 0,
     ) refl
 
 -- a site's propensity, by its value and those of its neighbours
 local_weight : ℕ → ℕ → ℕ → ℕ → ℕ → ℕ
-local_weight sites place own before behind =
-    0 + weight_of (energy_by own before behind)
-    (energy_by (other_value own) (seen ((place + sites - 1) % sites) place (other_value own) before) (seen ((place + 1) % sites) place (other_value own) behind))
+local_weight sites place own before after =
+    0 + weight_of (energy_by own before after)
+    (energy_by (other_value own) (seen ((place + sites - 1) % sites) place (other_value own) before) (seen ((place + 1) % sites) place (other_value own) after))
 
-weight_is : (values : List ℕ) (place : ℕ)
+weight_is : (sites : ℕ) (values : List ℕ) (place : ℕ)
     → place < length values
-    → propensity_of values place
-    ≡ local_weight (length values) place (get_or values place 0) (get_or values ((place + length values - 1) % length values) 0) (get_or values ((place + 1) % length values) 0)
+    → propensity (whole_chain sites) values place
+    ≡ local_weight sites place (get_or values place 0) (get_or values ((place + sites - 1) % sites) 0) (get_or values ((place + 1) % sites) 0)
 unfolding local_weight
-weight_is values place less = rw (energy_of-set values place (other_value (get_or values place 0)) less) refl
+weight_is sites values place less = rw (energy_of-set sites values place (other_value (get_or values place 0)) less) refl
 
 -- sites with equal values there and at their neighbours have equal propensities
-same_weight : (old new : List ℕ) (place : ℕ)
+same_weight : (sites : ℕ) (old new : List ℕ) (place : ℕ)
     → length new ≡ length old
     → place < length old
     → get_or new place 0 ≡ get_or old place 0
-    → get_or new ((place + length old - 1) % length old) 0 ≡ get_or old ((place + length old - 1) % length old) 0
-    → get_or new ((place + 1) % length old) 0 ≡ get_or old ((place + 1) % length old) 0
-    → propensity_of new place ≡ propensity_of old place
-same_weight old new place same less own before behind =
+    → get_or new ((place + sites - 1) % sites) 0 ≡ get_or old ((place + sites - 1) % sites) 0
+    → get_or new ((place + 1) % sites) 0 ≡ get_or old ((place + 1) % sites) 0
+    → propensity (whole_chain sites) new place ≡ propensity (whole_chain sites) old place
+same_weight sites old new place same less own before after =
     let also : place < length new = omega arith in
-    weight_is new place also ∙ (rw (same, own, before, behind) (sym (weight_is old place less)))
+    weight_is sites new place also ∙ (rw (own, before, after) (sym (weight_is sites old place less)))
 
--- a site that is neither the turned one nor its neighbour keeps its propensity
+-- a site that is neither the flipped one nor its neighbour keeps its propensity
 far_weight : (values : List ℕ) (place other : ℕ)
     → place < length values
     → other < length values
     → other ≢ place
     → other ≢ (place + length values - 1) % length values
     → other ≢ (place + 1) % length values
-    → propensity_of (turned values place) other ≡ propensity_of values other
-far_weight values place other less within away not_before not_behind =
+    → propensity (whole_chain (length values)) (flipped values place) other ≡ propensity (whole_chain (length values)) values other
+far_weight values place other less within away not_before not_after =
     let new : ℕ = other_value (get_or values place 0) in
-    same_weight values (turned values place) other (length-set values place new) within
+    same_weight (length values) values (flipped values place) other (length-set values place new) within
     (get_or-set_other values place other new 0 away)
-    (get_or-set_other values place ((other + length values - 1) % length values) new 0 (far_before (length values) place other less within not_behind))
-    (get_or-set_other values place ((other + 1) % length values) new 0 (far_behind (length values) place other less within not_before))
+    (get_or-set_other values place ((other + length values - 1) % length values) new 0 (far_before (length values) place other less within not_after))
+    (get_or-set_other values place ((other + 1) % length values) new 0 (far_after (length values) place other less within not_before))
 
 -- the propensities, one by one
-pub propensities_are : (values : List ℕ) → propensities_of values ≡ map (λ place. propensity_of values place) (range_with_len 0 (length values))
-unfolding propensities_of
-propensities_are values = refl
+pub propensities_are : (sites : ℕ) (values : List ℕ) → propensities (whole_chain sites) values ≡ map (λ place. propensity (whole_chain sites) values place) (range_with_len 0 sites)
+unfolding propensities
+propensities_are sites values = refl
 
-pub length-propensities : (values : List ℕ) → length (propensities_of values) ≡ length values
-length-propensities values = rw propensities_are (length-map-range_with_len (λ place. propensity_of values place) 0 (length values))
+pub length-propensities : (sites : ℕ) (values : List ℕ) → length (propensities (whole_chain sites) values) ≡ sites
+length-propensities sites values = rw propensities_are (length-map-range_with_len (λ place. propensity (whole_chain sites) values place) 0 sites)
 
-pub propensity_at : (values : List ℕ) (place : ℕ) → place < length values → get_or (propensities_of values) place 0 ≡ propensity_of values place
-propensity_at values place less =
-    rw propensities_are (get_or-map-range_with_len (λ at. propensity_of values at) 0 (length values) place place 0 less (omega arith))
+pub propensity_at : (sites : ℕ) (values : List ℕ) (place : ℕ) → place < sites → get_or (propensities (whole_chain sites) values) place 0 ≡ propensity (whole_chain sites) values place
+propensity_at sites values place less =
+    rw propensities_are (get_or-map-range_with_len (λ at. propensity (whole_chain sites) values at) 0 sites place place 0 less (omega arith))
 
 -- an element that was right, or is written now
 written : (f : ℕ → ℕ) (xs : List ℕ) (at k : ℕ) → at < length xs → (k ≢ at → get_or xs k 0 ≡ f k) → get_or (set xs at (f at)) k 0 ≡ f k
@@ -162,27 +162,30 @@ get_or-three_written f xs a b c k a_within b_within c_within else_right =
 -- where one site takes its other value, only its own propensity and those of its neighbours change
 pub three_anew : (values : List ℕ) (place : ℕ)
     → place < length values
-    → set (set (set (propensities_of values) place (propensity_of (turned values place) place))
-    ((place + length values - 1) % length values) (propensity_of (turned values place) ((place + length values - 1) % length values)))
-    ((place + 1) % length values) (propensity_of (turned values place) ((place + 1) % length values))
-    ≡ propensities_of (turned values place)
+    → set (set (set (propensities (whole_chain (length values)) values) place (propensity (whole_chain (length values)) (flipped values place) place))
+    ((place + length values - 1) % length values) (propensity (whole_chain (length values)) (flipped values place) ((place + length values - 1) % length values)))
+    ((place + 1) % length values) (propensity (whole_chain (length values)) (flipped values place) ((place + 1) % length values))
+    ≡ propensities (whole_chain (length values)) (flipped values place)
 three_anew values place less =
-    let f : ℕ → ℕ = λ at. propensity_of (turned values place) at in
+    let sites : ℕ = length values in
+    let f : ℕ → ℕ = λ at. propensity (whole_chain sites) (flipped values place) at in
     let before : ℕ = (place + length values - 1) % length values in
-    let behind : ℕ = (place + 1) % length values in
-    let anew : List ℕ = three_written f (propensities_of values) place before behind in
+    let after : ℕ = (place + 1) % length values in
+    let old : List ℕ = propensities (whole_chain sites) values in
+    let new : List ℕ = propensities (whole_chain sites) (flipped values place) in
+    let anew : List ℕ = three_written f old place before after in
     let before_within : before < length values = mod-lt (place + length values - 1) (omega arith) in
-    let behind_within : behind < length values = mod-lt (place + 1) (omega arith) in
-    let old_all : length (propensities_of values) ≡ length values = length-propensities values in
-    let anew_all : length anew ≡ length values = length-three_written f (propensities_of values) place before behind ∙ old_all in
-    let new_all : length (turned values place) ≡ length values = length-set values place (other_value (get_or values place 0)) in
-    let old_right : (k : ℕ) → k < length values → k ≢ place → k ≢ before → k ≢ behind → get_or (propensities_of values) k 0 ≡ f k = λ k within away not_before not_behind.
-    propensity_at values k within ∙ sym (far_weight values place k less within away not_before not_behind) in
-    let each : (k : ℕ) → k < length anew → get_or anew k 0 ≡ get_or (propensities_of (turned values place)) k 0 = λ k there.
+    let after_within : after < length values = mod-lt (place + 1) (omega arith) in
+    let old_all : length old ≡ length values = length-propensities sites values in
+    let new_all : length new ≡ length values = length-propensities sites (flipped values place) in
+    let anew_all : length anew ≡ length values = length-three_written f old place before after ∙ old_all in
+    let old_right : (k : ℕ) → k < length values → k ≢ place → k ≢ before → k ≢ after → get_or old k 0 ≡ f k = λ k within away not_before not_after.
+    propensity_at sites values k within ∙ sym (far_weight values place k less within away not_before not_after) in
+    let each : (k : ℕ) → k < length anew → get_or anew k 0 ≡ get_or new k 0 = λ k there.
     let within : k < length values = omega arith in
-    get_or-three_written f (propensities_of values) place before behind k (omega arith) (omega arith) (omega arith) (old_right k within)
-    ∙ sym (propensity_at (turned values place) k (omega arith)) in
-    ext_get_or 0 anew (propensities_of (turned values place)) (anew_all ∙ sym (length-propensities (turned values place) ∙ new_all)) each
+    get_or-three_written f old place before after k (omega arith) (omega arith) (omega arith) (old_right k within)
+    ∙ sym (propensity_at sites (flipped values place) k within) in
+    ext_get_or 0 anew new (anew_all ∙ sym new_all) each
 
 -- so many sites have a total that fits
 pub total_at_most : (weights : List ℕ) → All (λ w. w ≤ 2 ^ 30) weights → length weights ≤ 4194304 → sum weights ≤ 2 ^ 52
@@ -198,11 +201,11 @@ sum-set weights place weight less =
     omega arith
 
 -- where a site takes its other value
-pub ruleset one_turn = (length-propensities, length-set, three_anew)
+pub ruleset one_flip = (length-propensities, length-set, three_anew)
 
--- the propensities of so many sites, the first ones, with their total
-pub record FirstWeights (values weights : List ℕ) (sites total : ℕ) : Type 0 where
-  pub in_order : weights ≡ map (λ place. propensity_of values place) (range_with_len 0 sites)
+-- the propensities of the first so many sites, with their total
+pub record FirstWeights (all : ℕ) (values weights : List ℕ) (sites total : ℕ) : Type 0 where
+  pub in_order : weights ≡ map (λ place. propensity (whole_chain all) values place) (range_with_len 0 sites)
   pub small : All (λ w. w ≤ 2 ^ 30) weights
   pub sum_is : total ≡ sum weights
   pub room : total ≤ 2 ^ 30 * sites
@@ -211,21 +214,21 @@ All-one : (weight : ℕ) → weight ≤ 2 ^ 30 → All (λ w. w ≤ 2 ^ 30) (wei
 All-one weight small = search rules
 
 -- one more
-pub first_more : (values weights : List ℕ) (sites total weight : ℕ)
-    → FirstWeights values weights sites total
-    → weight ≡ propensity_of values sites
+pub first_more : (all : ℕ) (values weights : List ℕ) (sites total weight : ℕ)
+    → FirstWeights all values weights sites total
+    → weight ≡ propensity (whole_chain all) values sites
     → weight ≤ 2 ^ 30
-    → FirstWeights values (weights ++ weight ∷ []) (sites + 1) (total + weight)
-first_more values weights sites total weight first is small = record {
-  in_order = rw (first.in_order, is) (sym (map-range_with_len_more (λ place. propensity_of values place) 0 sites sites (omega arith)));
+    → FirstWeights all values (weights ++ weight ∷ []) (sites + 1) (total + weight)
+first_more all values weights sites total weight first is small = record {
+  in_order = rw (first.in_order, is) (sym (map-range_with_len_more (λ place. propensity (whole_chain all) values place) 0 sites sites (omega arith)));
   small = All-append (λ w. w ≤ 2 ^ 30) weights (weight ∷ []) first.small (All-one weight small);
   sum_is = rw (first.sum_is) (sym (sum_by_push (λ w. w) weights weight));
   room = omega (arith, first.room);
 }
 
 -- all of them
-pub first_all : (values weights : List ℕ) (sites total : ℕ) → FirstWeights values weights sites total → sites ≡ length values → weights ≡ propensities_of values
-first_all values weights sites total first all = first.in_order ∙ (rw all (sym (propensities_are values)))
+pub first_all : (all : ℕ) (values weights : List ℕ) (sites total : ℕ) → FirstWeights all values weights sites total → sites ≡ all → weights ≡ propensities (whole_chain all) values
+first_all all values weights sites total first is = first.in_order ∙ (rw is (sym (propensities_are all values)))
 
-pub length-first : (values weights : List ℕ) (sites total : ℕ) → FirstWeights values weights sites total → length weights ≡ sites
-length-first values weights sites total first = rw first.in_order (length-map-range_with_len (λ place. propensity_of values place) 0 sites)
+pub length-first : (all : ℕ) (values weights : List ℕ) (sites total : ℕ) → FirstWeights all values weights sites total → length weights ≡ sites
+length-first all values weights sites total first = rw first.in_order (length-map-range_with_len (λ place. propensity (whole_chain all) values place) 0 sites)

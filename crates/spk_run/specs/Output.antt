@@ -1,34 +1,41 @@
 -- What goes to the screen and to the log, and in which order.
-use Rattle.std.specs.Prelude.{ℕ, List, Option, Some, None}
+use Rattle.std.specs.Prelude.{ℕ, List, [], ◌∷◌, Option, Some, None}
 use Rattle.spk_world.specs.Outside.{says, adds, starts}
 use Rattle.spk_world.specs.Effects.{Effect, ◌>>◌, answers, writes}
 use Rattle.spk_cmds.specs.declared.options.Echo.{Echo}
 use Rattle.spk_cmds.specs.declared.options.Echo.TheVariants as echo
-use Rattle.spk_run.specs.Endings.{refusal_text}
-use Rattle.spk_run.specs.declared.answer.Cause.{Cause}
-use Rattle.spk_run.specs.declared.answer.Ending.{Ending}
-use Rattle.spk_run.specs.declared.answer.Ending.TheVariants.{Refused}
+use Rattle.spk_run.specs.declared.answer.Target.{Target}
+use Rattle.spk_run.specs.declared.answer.Target.TheVariants as target
+
+-- where the log is; without one there is nothing but the screen
+abbrev pub log_target : Option (List ℕ) → Target
+log_target None = target.Screen
+log_target (Some name) = target.File name
 
 -- a text for the log, where there is one
-abbrev pub logged : Option (List ℕ) → List ℕ → Effect (Unit {0})
-logged None text = answers tt
-logged (Some log) text = writes (adds log text)
+abbrev pub logs : Option (List ℕ) → List ℕ → Effect (Unit {0})
+logs None text = answers tt
+logs (Some log) text = writes (adds log text)
 
 -- a text for the screen, and then for the log
-abbrev pub told : Option (List ℕ) → List ℕ → Effect (Unit {0})
-told log text = writes (says text) >> logged log text
+unfoldable pub prints : Option (List ℕ) → List ℕ → Effect (Unit {0})
+prints log text = writes (says text) >> logs log text
 
--- a command's lines are echoed as they stand in the script: all of them to the screen, and then all of them to the log
-abbrev pub echoed : Echo → Option (List ℕ) → List ℕ → Effect (Unit {0})
-echoed echo.None log text = answers tt
-echoed echo.Screen log text = writes (says text)
-echoed echo.Log log text = logged log text
-echoed echo.Both log text = told log text
+abbrev pub prints_then : Option (List ℕ) → List ℕ → Effect (Unit {0}) → Effect (Unit {0})
+prints_then log text rest = prints log text >> rest
 
-abbrev pub started_log : Option (List ℕ) → Effect (Unit {0})
-started_log None = answers tt
-started_log (Some log) = writes (starts log)
+-- one text after another
+unfoldable pub prints_all : Option (List ℕ) → List (List ℕ) → Effect (Unit {0})
+prints_all log [] = answers tt
+prints_all log (text ∷ texts) = prints log text >> prints_all log texts
 
--- the script is refused at a line
-abbrev pub refused : Option (List ℕ) → ℕ → Cause → Effect Ending
-refused log line cause = told log (refusal_text line cause) >> answers (Refused line cause)
+-- A command's lines are echoed as they stand in the script: all of them to the screen, and then all of them to the log.
+abbrev pub echoes : Echo → Option (List ℕ) → List ℕ → Effect (Unit {0})
+echoes echo.None log text = answers tt
+echoes echo.Screen log text = writes (says text)
+echoes echo.Log log text = logs log text
+echoes echo.Both log text = prints log text
+
+abbrev pub starts_log : Option (List ℕ) → Effect (Unit {0})
+starts_log None = answers tt
+starts_log (Some log) = writes (starts log)

@@ -1,48 +1,58 @@
--- A run: its cycles, and the statistics that it writes. They are made after SPPARKS's; their texts are our own.
-use Rattle.std.specs.Prelude.{ℕ, ◌+◌, ◌-◌, ◌*◌, ◌/◌, Bool, ◌&&◌, ◌||◌, ◌==◌, nat_lt, if◌then◌else◌, min, List, [], ◌∷◌, ◌++◌, map, codes, decimal, Option}
-use Rattle.std.specs.List.{range_with_len}
-use Rattle.spk_num.specs.Decimal.{ticks_text}
+-- A run of the sites of a box: the texts that it writes at its marks, and the box after it.
+use Rattle.std.specs.Prelude.{ℕ, ◌+◌, ◌*◌, ◌^◌, List, ◌∷◌, map, length, Option}
+use Rattle.spk_lattice.specs.Layout.{dimensions_of}
 use Rattle.spk_world.specs.Effects.{Effect, ◌>>◌, answers}
-use Rattle.spk_run.specs.declared.run.RunTimes.{RunTimes}
-use Rattle.spk_run.specs.declared.sites.Sites.{Sites}
-use Rattle.spk_run.specs.Output.{told}
-use Rattle.spk_run.specs.Turn.{turn_of}
+use Rattle.spk_run.specs.declared.domain.Domain.{Domain}
+use Rattle.spk_run.specs.declared.run_settings.RunSettings.{RunSettings}
+use Rattle.spk_run.specs.declared.statistics.StatsLine.{StatsLine}
+use Rattle.spk_run.specs.Ising.{whole_chain}
+use Rattle.spk_run.specs.Turns.{counts_sum}
+use Rattle.spk_run.specs.Plans.{elapsed, marks, steps}
+use Rattle.spk_run.specs.Globals.{GlobalState, Job, global_state, all_counts}
+use Rattle.spk_run.specs.Statistics.{header_text, statistics_text}
+use Rattle.spk_run.specs.Output.{prints_all}
 
--- a line of statistics: the time, the events accepted and rejected, and the sweeps
-unfoldable pub statistics_text : ℕ → ℕ → List ℕ
-statistics_text time accepted = ticks_text time ++ (codes " " ++ (decimal accepted ++ codes " 0 0\n"))
+-- the streams of a rank are those of its 2, 4 or 8 sectors, of which a run without sectors takes the first
+abbrev pub sectors_of : Domain → ℕ
+sectors_of domain = 2 ^ dimensions_of domain.lattice.style
 
--- The cycles of a run of this length take 10^9 ticks each, and the last is cut at its end. These are the times,
--- counted from the run's start, at which they end.
-abbrev pub cycle_end : ℕ → ℕ → ℕ
-cycle_end length cycle = min length (1000000000 * (cycle + 1))
+-- a run on one rank
+abbrev pub job : RunSettings → Domain → Job
+job settings domain = record {
+  sector = λ rank sector. whole_chain (length domain.values);
+  ranks = 1;
+  streams_each = sectors_of domain;
+  settings = settings;
+  values = domain.values;
+  streams = domain.streams;
+}
 
-abbrev pub cycles_of : ℕ → ℕ
-cycles_of length = (length + 999999999) / 1000000000
+-- the box, with the state of all ranks after so many ticks
+abbrev pub domain_with : Domain → ℕ → GlobalState → Domain
+domain_with domain ticks state = record domain {
+  time = domain.time + ticks;
+  values = state.values;
+  streams = state.streams;
+  counts = counts_sum domain.counts (all_counts state.counts);
+}
 
-abbrev pub cycle_ends : ℕ → List ℕ
-cycle_ends length = map (λ cycle. cycle_end length cycle) (range_with_len 0 (cycles_of length))
+-- the box after so many cycles
+unfoldable pub domain_at : RunSettings → Domain → ℕ → Domain
+domain_at settings domain done = domain_with domain (elapsed settings done) (global_state (job settings domain) (done * settings.sectors))
 
--- a multiple of the interval of the statistics lies behind the first of two times, and not behind the second; both are
--- counted from the run's start
-abbrev pub reaches : ℕ → ℕ → ℕ → Bool
-reaches delta before time = nat_lt 0 delta && nat_lt (before / delta) (time / delta)
+abbrev pub domain_after : RunSettings → Domain → Domain
+domain_after settings domain = domain_with domain settings.length (global_state (job settings domain) (steps settings))
 
--- behind a cycle stands a line where it is the last, or where a multiple of the interval was reached
-abbrev pub cycle_told : Option (List ℕ) → RunTimes → ℕ → ℕ → ℕ → Effect (Unit {0})
-cycle_told log times before time accepted =
-    if time == times.length || reaches times.delta before time then told log (statistics_text (times.start + time) accepted) else answers tt
+-- the line of statistics of a box
+abbrev pub line_of : Domain → StatsLine
+line_of domain = record { time = domain.time; counts = domain.counts; sweeps = domain.sweeps }
 
--- each cycle is a turn of the sites, and then its line
-abbrev pub cycles_told : Option (List ℕ) → RunTimes → ℕ → Sites → List ℕ → Effect Sites
-cycles_told log times before sites [] = answers sites
-cycles_told log times before sites (time ∷ ends) =
-    cycle_told log times before time (turn_of (time - before) sites).accepted
-    >> cycles_told log times time (turn_of (time - before) sites) ends
+abbrev pub mark_text : RunSettings → Domain → ℕ → List ℕ
+mark_text settings domain done = statistics_text (line_of (domain_at settings domain done))
 
--- a run writes a header, a line at its start, and lines behind its cycles
-abbrev pub ran : Option (List ℕ) → RunTimes → Sites → Effect Sites
-ran log times sites = do
-  told log (codes "Time Naccept Nreject Nsweeps\n")
-  told log (statistics_text times.start sites.accepted)
-  cycles_told log times 0 sites (cycle_ends times.length)
+-- a header, and then a line at each mark
+abbrev pub run_texts : RunSettings → Domain → List (List ℕ)
+run_texts settings domain = header_text ∷ map (mark_text settings domain) (marks settings)
+
+abbrev pub runs : Option (List ℕ) → RunSettings → Domain → Effect Domain
+runs log settings domain = prints_all log (run_texts settings domain) >> answers (domain_after settings domain)

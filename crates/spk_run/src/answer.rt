@@ -1,8 +1,9 @@
-//! What a run of the program came to, and the causes for which a script is refused.
+//! What a run of the program came to.
 
 ghost use Rattle.std.specs.Prelude.{◌≡◌};
 ghost use Rattle.spk_run.specs.Endings.{status_of, answer_of};
 
+use crate::cause::Cause;
 use spk_num::text::Text;
 
 /// What a run of the program came to.
@@ -18,7 +19,7 @@ pub enum Answer {
     ReadFault { name: Text },
     /// A write there failed.
     WriteFault { target: Target },
-    /// Memory is wanting.
+    /// There was not enough memory.
     OutOfMemory,
 }
 
@@ -27,95 +28,6 @@ pub enum Answer {
 pub enum Target {
     Screen,
     File(Text),
-}
-
-/// Why a script is refused.
-#[derive(Debug, Drop)]
-pub enum Cause {
-    /// It has more than 1048576 bytes.
-    ScriptTooLong,
-    /// No script may have the byte at this place, counted from 0.
-    NotAscii(u32),
-    /// A quote isn't closed.
-    OpenQuote,
-    /// It has more than 100000 lines.
-    TooManyLines,
-    /// The words of the line take more than 4096 bytes.
-    LineTooLong,
-    /// A run of it arrives at more than 1000000 commands.
-    TooManyCommands,
-    /// No variable has this name.
-    UnknownVariable(Text),
-    /// A command of the script's language takes another number of words.
-    WrongWords,
-    /// This word is no name.
-    BadName(Text),
-    /// A byte of a formula can't stand at this place, counted from 0.
-    BadFormula(u32),
-    /// The result of an operation has more than six places, or a divisor is 0.
-    Inexact,
-    /// The result of an operation passes 10^12.
-    NumberTooLarge,
-    /// A loop has 1 to 1000000 turns.
-    LoopValue,
-    /// The variable with this name has no next value, whatever its value is.
-    NotStepped(Text),
-    /// A jump leads to another file.
-    OtherFile,
-    /// No line is this label.
-    NoSuchLabel(Text),
-    /// No variable has this style.
-    BadStyle(Text),
-    /// No command has this name.
-    UnknownCommand(Text),
-    /// A command takes another word in the place of this one.
-    UnknownStyle(Text),
-    /// A command takes another number of words.
-    WrongCount,
-    /// This word is no number of its kind.
-    BadNumber(Text),
-    /// This number isn't in its range.
-    OutOfRange(Text),
-    /// This command or word isn't built yet.
-    NotBuilt(Text),
-    /// This word of a command is no name.
-    BadCommandName(Text),
-    /// No `seed` was given.
-    NoSeed,
-    /// No `app_style` was given.
-    NoApp,
-    /// No `lattice` was given.
-    NoLattice,
-    /// There is no box yet.
-    NoBox,
-    /// There are no sites yet.
-    NoSites,
-    /// It was given or made already.
-    AlreadyMade,
-    /// A region has this name already.
-    RegionTwice(Text),
-    /// No region has this name.
-    NoSuchRegion(Text),
-    /// A region's low bound is above its high one.
-    RegionEmpty,
-    /// It would be the 129th region.
-    TooManyRegions,
-    /// A box is made of a region that is no block.
-    BoxNotBlock,
-    /// A box does not reach from 0 to a whole number in this dimension, 0 to 2 for x to z.
-    BoxNotWhole(u32),
-    /// A box has fewer than 3 cells in this dimension.
-    TooSmall(u32),
-    /// A box has more than 4194304 sites.
-    TooManySites,
-    /// Neither a solver nor a sweep was given.
-    NoSolver,
-    /// The application has no such value as that of this site.
-    BadValueForApp(u32),
-    /// A run has more than 10^9 steps, or ends behind 4 * 10^18 ticks.
-    RunTooLong,
-    /// No file has this name.
-    FileMissing(Text),
 }
 
 /// How a script that could be read and written to its end has ended.
@@ -138,7 +50,7 @@ impl Ending {
 }
 
 /// The exit status of an answer: 0 where the script was obeyed, 1 where it was refused, 2 where the command line is
-/// wrong, 3 after a failed read or write, 4 where memory is wanting.
+/// wrong, 3 after a failed read or write, 4 where there was not enough memory.
 pub fn status(answer: &Answer) -> u8
     ensures { result ≡ status_of answer.now }
 {

@@ -1,141 +1,117 @@
-//! The commands of a script by their words: they are read, and then obeyed or refused.
+//! The commands of a session: for which cause each is refused, and what it does.
 
-ghost use Rattle.std.specs.Prelude.{◌≡◌, Ok, Err, Some, IfOk};
-ghost use Rattle.spk_cmds.specs.Judging.{Judged, Answers};
-ghost use Rattle.spk_cmds.specs.Ranges.{InRanges};
-ghost use Rattle.spk_cmds.specs.declared.command.Command.{Command as Made};
-ghost use Rattle.spk_script.specs.Machine.{State};
-ghost use Rattle.spk_world.specs.Effects.{WriteFailed, Wrote};
-ghost use Rattle.spk_run.specs.declared.state.SessionState.{SessionState};
-ghost use Rattle.spk_run.specs.Endings.{IsOfContent, place_of_target};
-ghost use Rattle.spk_run.specs.Plain.{cause_of_words, ended_for, command_obeyed, words_obeyed};
-ghost use Rattle.spk_run.specs.Passing.{passed_to, IsStep};
-ghost use Rattle.spk_run.specs.Troubles.{write_stop, stop_of, NamesLog};
+ghost use Rattle.std.specs.Prelude.{◌≡◌, None, IfOk, IfSome};
+ghost use Rattle.spk_cmds.specs.WellFormed.{IsWellFormed};
+ghost use Rattle.spk_world.specs.Effects.{Wrote};
+ghost use Rattle.spk_run.specs.Causes.{IsOfState};
+ghost use Rattle.spk_run.specs.States.{if_so};
+ghost use Rattle.spk_run.specs.Commands.{state_cause, cause, set_by, performs};
+ghost use Rattle.spk_run.specs.Faults.{fault_stop, done_to, LeavesDone, WritesAfterMemory};
 
-use crate::answer::{Cause, Ending, Target};
-use crate::output::refuse;
-use crate::session::Session;
-use crate::trouble::{Fault, Trouble, WriteTrouble};
-use spk_cmds::{Command, CommandFault, Options, command_of};
-use spk_num::text::Text;
+use crate::cause::Cause;
+use crate::fault::Fault;
+use crate::seed::Seed;
+use crate::state::{LatticeStyle, SessionState, ticks_of};
+use spk_cmds::Command;
 use spk_world::World;
-use std::alloc::Global;
+use std::alloc::{AllocError, Global};
 
-/// What stands behind a line: the script goes on, or it has ended.
-#[derive(Debug, Drop)]
-pub enum Step {
-    Goes,
-    Ends(Ending),
+mod create_box;
+mod create_sites;
+mod not_built;
+mod print;
+mod region;
+mod run;
+mod seed;
+mod set;
+
+use not_built::unbuilt_word;
+
+/// That something is made or given already.
+fn already(made: bool) -> Option<Cause>
+    ensures cause { result ≡ if_so made Cause.AlreadyMade }
+    ensures of_state { IfSome result IsOfState }
+{
+    if made { Some(Cause::AlreadyMade) } else { None }
 }
 
-/// Ends the script at a line that is refused.
-pub fn end<W: World>(
-    alloc: Global,
-    world: &mut W,
-    options: &Options,
-    number: u32,
-    cause: Cause,
-) -> Result<Step, Fault>
-    ensures wrote { (state : State) (session : SessionState) →
-        Wrote (stop_of options.now) (W.told world.old) (W.told world.new) (W.faults world.old) (W.faults world.new)
-        (ended_for options.now.log number (Some cause)) (passed_to state session result) }
-    ensures step { IsOfContent (Ending.Refused number cause) → IfOk result IsStep }
-{
-    let ending = refuse(alloc, world, options, number, cause)?;
-    Ok(Step::Ends(ending))
-}
-
-/// The cause that a fault of words is. Want of memory is none.
-fn cause_of(fault: CommandFault) -> Option<Cause>
-    ensures { result ≡ cause_of_words fault }
-{
-    match fault {
-        CommandFault::UnknownCommand(word) => Some(Cause::UnknownCommand(word)),
-        CommandFault::UnknownStyle(word) => Some(Cause::UnknownStyle(word)),
-        CommandFault::WrongCount => Some(Cause::WrongCount),
-        CommandFault::BadNumber(word) => Some(Cause::BadNumber(word)),
-        CommandFault::OutOfRange(word) => Some(Cause::OutOfRange(word)),
-        CommandFault::NotBuilt(word) => Some(Cause::NotBuilt(word)),
-        CommandFault::BadName(word) => Some(Cause::BadCommandName(word)),
-        CommandFault::Memory => None,
+impl SessionState {
+    /// The cause for which a command is refused in what was given and made before.
+    fn state_cause(&self, alloc: Global, command: &Command) -> Result<Option<Cause>, AllocError>
+        requires { IsWellFormed command.now }
+        ensures cause { IfOk result (λ found. found ≡ state_cause self.now command.now) }
+        ensures of_state { IfOk result (λ found. IfSome found IsOfState) }
+    {
+        match command {
+            Command::App { .. } => Ok(already(self.app.is_some())),
+            Command::Lattice { .. } => Ok(already(self.lattice.is_some())),
+            Command::Boundary { .. } => Ok(already(self.domain.is_some())),
+            Command::Region { name, shape } => self.region_cause(alloc, name, shape),
+            Command::CreateBox { region } => self.box_cause(alloc, region),
+            Command::CreateSites => Ok(self.sites_cause()),
+            Command::Set { .. } => Ok(self.set_cause()),
+            Command::Run { length } => Ok(self.run_cause(ticks_of(*length))),
+            _ => Ok(None),
+        }
     }
-}
 
-/// Ends the script for words that are no command.
-fn refuse_words<W: World>(
-    alloc: Global,
-    world: &mut W,
-    options: &Options,
-    number: u32,
-    fault: CommandFault,
-) -> Result<Step, Fault>
-    ensures wrote { (plain : Judged Made) (state : State) (session : SessionState) → Answers plain (Err fault) →
-        Wrote (stop_of options.now) (W.told world.old) (W.told world.new) (W.faults world.old) (W.faults world.new)
-        (command_obeyed options.now.log number state session plain) (passed_to state session result) }
-    ensures step { IfOk result IsStep }
-{
-    match cause_of(fault) {
-        Some(cause) => end(alloc, world, options, number, cause),
-        None => Err(Fault::Memory),
+    /// The cause for which a command is refused before it does anything: of several the one with the least number.
+    #[tactic(auto, unfolding(crate::specs::Commands::cause))]
+    pub fn cause(&self, alloc: Global, command: &Command) -> Result<Option<Cause>, AllocError>
+        requires { IsWellFormed command.now }
+        ensures cause { IfOk result (λ found. found ≡ cause self.now command.now) }
+        ensures of_state { IfOk result (λ found. IfSome found IsOfState) }
+    {
+        match unbuilt_word(alloc, command)? {
+            Some(word) => Ok(Some(Cause::NotBuilt(word))),
+            None => self.state_cause(alloc, command),
+        }
     }
-}
 
-/// The write that failed where a command could not write there. A command writes no file but the log.
-#[tactic(auto, unfolding(crate::specs::Troubles::write_stop))]
-fn write_trouble(options: &Options, target: Target) -> WriteTrouble
-    requires { NamesLog options.now.log (Trouble.WriteFault target) }
-    ensures { write_stop options.now.log result ≡ WriteFailed (place_of_target target) }
-{
-    match target {
-        Target::Screen => WriteTrouble::Screen,
-        Target::File(_) => WriteTrouble::Log,
+    /// Does what a command does that writes nothing.
+    #[tactic(auto, unfolding(crate::specs::Commands::set_by))]
+    fn set(&mut self, alloc: Global, command: &Command) -> Result<(), AllocError>
+        requires { IsWellFormed command.now }
+        ensures { IfOk result (λ _. self.new ≡ set_by self.old command.now) }
+    {
+        match command {
+            Command::Seed { seed } => self.set_seed(alloc, Seed::new(*seed))?,
+            Command::App { style } => self.app = Some(*style),
+            Command::Lattice { style, scale } => {
+                self.lattice = Some(LatticeStyle {
+                    style: *style,
+                    scale: *scale,
+                });
+            }
+            Command::Region { name, shape } => self.add_region(alloc, name, shape)?,
+            Command::CreateBox { region } => self.make_box(alloc, region)?,
+            Command::CreateSites => self.make_sites(alloc)?,
+            Command::Set { value, .. } => self.set_values(*value),
+            Command::Solve { style } => self.solver = Some(*style),
+            Command::Stats { delta } => self.stats = ticks_of(*delta),
+            Command::SetEcho { echo } => self.echo = *echo,
+            _ => {}
+        }
+        Ok(())
     }
-}
 
-/// Obeys a command.
-fn obey_command<W: World>(
-    alloc: Global,
-    world: &mut W,
-    options: &Options,
-    number: u32,
-    session: &mut Session,
-    command: &Command,
-) -> Result<Step, Fault>
-    requires ranges { InRanges command.now }
-    requires log { session.old.state.log ≡ options.now.log }
-    ensures wrote { (state : State) →
-        Wrote (stop_of options.now) (W.told world.old) (W.told world.new) (W.faults world.old) (W.faults world.new)
-        (command_obeyed options.now.log number state session.old.state (Ok command.now)) (passed_to state session.new.state result) }
-    ensures step { IfOk result IsStep }
-    ensures log { session.new.state.log ≡ session.old.state.log }
-{
-    match session.obey(command, world) {
-        Ok(()) => Ok(Step::Goes),
-        Err(Trouble::Refused(cause)) => end(alloc, world, options, number, cause),
-        Err(Trouble::ReadFault(_)) => unreachable!(),
-        Err(Trouble::WriteFault(target)) => Err(Fault::Write(write_trouble(options, target))),
-        Err(Trouble::Memory) => Err(Fault::Memory),
-    }
-}
-
-/// Obeys a command by its words.
-pub fn obey_words<W: World>(
-    alloc: Global,
-    world: &mut W,
-    options: &Options,
-    number: u32,
-    session: &mut Session,
-    words: &[Text],
-) -> Result<Step, Fault>
-    requires { session.old.state.log ≡ options.now.log }
-    ensures wrote { (state : State) →
-        Wrote (stop_of options.now) (W.told world.old) (W.told world.new) (W.faults world.old) (W.faults world.new)
-        (words_obeyed options.now.log number state session.old.state words.now) (passed_to state session.new.state result) }
-    ensures step { IfOk result IsStep }
-    ensures log { session.new.state.log ≡ session.old.state.log }
-{
-    match command_of(alloc, words) {
-        Ok(command) => obey_command(alloc, world, options, number, session, &command),
-        Err(fault) => refuse_words(alloc, world, options, number, fault),
+    /// Obeys a command that has no cause in the state.
+    pub fn perform<W: World>(
+        &mut self,
+        alloc: Global,
+        command: &Command,
+        world: &mut W,
+    ) -> Result<(), Fault>
+        requires formed { IsWellFormed command.now }
+        requires free { cause self.old command.now ≡ None }
+        ensures wrote { Wrote fault_stop (W.state world.old) (W.state world.new) (performs self.old command.now) (done_to self.new result) }
+        ensures memory { WritesAfterMemory (W.state world.old).told (W.state world.new).told result }
+        ensures session { LeavesDone (W.state world.old).told (performs self.old command.now) self.old self.new result }
+    {
+        match command {
+            Command::Run { length } => self.run(alloc, ticks_of(*length), world),
+            Command::Print { text } => self.print(alloc, text, world),
+            _ => Ok(self.set(alloc, command)?),
+        }
     }
 }

@@ -2,25 +2,35 @@
 #![tactic(auto)]
 
 mod answer;
-mod causes;
+mod cause;
 mod commands;
+mod counts;
+mod domain;
+mod fault;
 mod messages;
 mod output;
+mod plan;
 mod propensities;
+mod rank_state;
 mod regions;
 mod run;
-mod script_run;
+mod run_settings;
+mod running;
+mod script;
 mod seed;
 mod session;
 mod simulate;
-mod sites;
 mod state;
+mod statistics;
+mod streams;
+mod teller;
 #[cfg(test)]
 mod tests;
-mod trouble;
 mod turn;
+mod values;
 
-pub use answer::{Answer, Cause, Target, status};
+pub use answer::{Answer, Target, status};
+pub use cause::Cause;
+pub use fault::Trouble;
 pub use session::Session;
 pub use simulate::simulate_alone;
-pub use trouble::Trouble;

@@ -1,9 +1,10 @@
 //! The lines that say why a script or a command line is refused.
 
 ghost use Rattle.std.specs.Prelude.{◌≡◌, ◌++◌, IfOk, string_bytes};
-ghost use Rattle.spk_run.specs.Endings.{cause_number, cause_text, dimension_text, refusal_text, usage_text};
+ghost use Rattle.spk_run.specs.Causes.{cause_number, cause_text, dimension_text};
+ghost use Rattle.spk_run.specs.Endings.{refusal_text, usage_text};
 
-use crate::answer::Cause;
+use crate::cause::Cause;
 use spk_num::text::Text;
 use std::alloc::{AllocError, Global};
 
@@ -58,11 +59,11 @@ fn number(cause: &Cause) -> u32
 }
 
 /// A text that names a word.
-fn with_word(alloc: Global, front: &str, word: &Text) -> Result<String, AllocError>
-    ensures { IfOk result (λ text. string_bytes text ≡ front.now ++ word.now) }
+fn with_word(alloc: Global, start: &str, word: &Text) -> Result<String, AllocError>
+    ensures { IfOk result (λ text. string_bytes text ≡ start.now ++ word.now) }
 {
     let word = word.as_str();
-    format!(in alloc; "{front}{word}")
+    format!(in alloc; "{start}{word}")
 }
 
 /// What a cause says.
@@ -116,15 +117,15 @@ fn text(alloc: Global, cause: &Cause) -> Result<String, AllocError>
 }
 
 /// A text that names a dimension.
-fn with_dimension(alloc: Global, front: &str, dimension: u32) -> Result<String, AllocError>
-    ensures { IfOk result (λ text. string_bytes text ≡ front.now ++ dimension_text dimension) }
+fn with_dimension(alloc: Global, start: &str, dimension: u32) -> Result<String, AllocError>
+    ensures { IfOk result (λ text. string_bytes text ≡ start.now ++ dimension_text dimension) }
 {
     let name = match dimension {
         0 => "x",
         1 => "y",
         _ => "z",
     };
-    format!(in alloc; "{front}{name}")
+    format!(in alloc; "{start}{name}")
 }
 
 /// What is said of a region whose name another one has.

@@ -1,112 +1,110 @@
-//! What the simulator writes: to the screen, to the log, and the lines of its refusals.
+//! The screen and the log.
 
-ghost use Rattle.std.specs.Prelude.{◌≡◌, List, ℕ, Option, IfOk};
+ghost use Rattle.std.specs.Prelude.{◌≡◌, OnOk, IfOk, IfErr};
 ghost use Rattle.spk_world.specs.Outside.{says};
 ghost use Rattle.spk_world.specs.Effects.{writes, Wrote};
-ghost use Rattle.spk_run.specs.Output.{logged, told, echoed, started_log, refused};
-ghost use Rattle.spk_run.specs.Troubles.{write_stop, stop_of};
+ghost use Rattle.spk_run.specs.Output.{log_target, logs, prints, echoes, starts_log};
+ghost use Rattle.spk_run.specs.Endings.{target_stop};
 
-use crate::answer::{Cause, Ending};
-use crate::messages::refusal_line;
-use crate::trouble::{Fault, WriteTrouble};
-use spk_cmds::{Echo, Options};
+use crate::answer::Target;
+use spk_cmds::Echo;
 use spk_num::text::Text;
 use spk_world::World;
 use std::alloc::{AllocError, Global};
 
-/// A copy of the name of a log.
-pub fn log_copy(alloc: Global, log: &Option<Text>) -> Result<Option<Text>, AllocError>
-    ensures { IfOk result (λ copy. copy ≡ log.now) }
-{
-    match log {
-        Some(name) => Ok(Some(Text::copy(alloc, name.as_str())?)),
-        None => Ok(None),
-    }
+/// The screen, and the log where there is one.
+///
+/// Each output has a copy of the log's name, made before its first write, and hands it out with a write to the log that
+/// failed. After a write that failed it is of no more use.
+#[derive(Debug, Drop)]
+pub struct Output {
+    pub log: Option<Text>,
 }
 
 /// Writes a text to the screen.
-pub fn say<W: World>(world: &mut W, text: &[u8]) -> Result<(), WriteTrouble>
-    ensures { (log : Option (List ℕ)) → Wrote (write_stop log) (W.told world.old) (W.told world.new) (W.faults world.old) (W.faults world.new) (writes (says text.now)) result }
+pub fn say<W: World>(world: &mut W, text: &[u8]) -> Result<(), Target>
+    ensures wrote { Wrote target_stop (W.state world.old) (W.state world.new) (writes (says text.now)) result }
+    ensures screen { IfErr result (λ target. target ≡ Target.Screen) }
 {
     if text.is_empty() {
         return Ok(());
     }
     match world.say(text) {
         Ok(()) => Ok(()),
-        Err(_) => Err(WriteTrouble::Screen),
+        Err(_) => Err(Target::Screen),
     }
 }
 
-/// Writes a text to the log, where there is one.
-pub fn log<W: World>(world: &mut W, log: &Option<Text>, text: &[u8]) -> Result<(), WriteTrouble>
-    ensures { Wrote (write_stop log.now) (W.told world.old) (W.told world.new) (W.faults world.old) (W.faults world.new) (logged log.now text.now) result }
-{
-    let Some(name) = log else {
-        return Ok(());
-    };
-    if text.is_empty() {
-        return Ok(());
+impl Output {
+    /// The screen, and the log with this name.
+    pub fn new(alloc: Global, log: &Option<Text>) -> Result<Output, AllocError>
+        ensures { IfOk result (λ output. output.log ≡ log.now) }
+    {
+        let log = match log {
+            Some(name) => Some(Text::copy(alloc, name.as_str())?),
+            None => None,
+        };
+        Ok(Output { log })
     }
-    match world.add(name.as_str(), text) {
-        Ok(()) => Ok(()),
-        Err(_) => Err(WriteTrouble::Log),
+
+    /// Where the log is. Without one there is nothing but the screen.
+    fn log_target(&mut self) -> Target
+        ensures { result ≡ log_target self.old.log }
+    {
+        match self.log.take() {
+            Some(name) => Target::File(name),
+            None => Target::Screen,
+        }
     }
-}
 
-/// Writes a text to the screen, and then to the log.
-pub fn tell<W: World>(
-    world: &mut W,
-    log_name: &Option<Text>,
-    text: &[u8],
-) -> Result<(), WriteTrouble>
-    ensures { Wrote (write_stop log_name.now) (W.told world.old) (W.told world.new) (W.faults world.old) (W.faults world.new) (told log_name.now text.now) result }
-{
-    say(world, text)?;
-    log(world, log_name, text)
-}
-
-/// Echoes the lines of a command in this style.
-pub fn echo<W: World>(
-    world: &mut W,
-    style: Echo,
-    log_name: &Option<Text>,
-    text: &[u8],
-) -> Result<(), WriteTrouble>
-    ensures { Wrote (write_stop log_name.now) (W.told world.old) (W.told world.new) (W.faults world.old) (W.faults world.new) (echoed style log_name.now text.now) result }
-{
-    match style {
-        Echo::None => Ok(()),
-        Echo::Screen => say(world, text),
-        Echo::Log => log(world, log_name, text),
-        Echo::Both => tell(world, log_name, text),
+    /// Writes a text to the log, where there is one.
+    fn log<W: World>(&mut self, world: &mut W, text: &[u8]) -> Result<(), Target>
+        ensures wrote { Wrote target_stop (W.state world.old) (W.state world.new) (logs self.old.log text.now) result }
+        ensures kept { OnOk result (self.new.log ≡ self.old.log) }
+    {
+        let Some(name) = &self.log else {
+            return Ok(());
+        };
+        if text.is_empty() {
+            return Ok(());
+        }
+        match world.add(name.as_str(), text) {
+            Ok(()) => Ok(()),
+            Err(_) => Err(self.log_target()),
+        }
     }
-}
 
-/// Starts the log, where there is to be one.
-pub fn start_log<W: World>(world: &mut W, log: &Option<Text>) -> Result<(), WriteTrouble>
-    ensures { Wrote (write_stop log.now) (W.told world.old) (W.told world.new) (W.faults world.old) (W.faults world.new) (started_log log.now) result }
-{
-    let Some(name) = log else {
-        return Ok(());
-    };
-    match world.start(name.as_str()) {
-        Ok(()) => Ok(()),
-        Err(_) => Err(WriteTrouble::Log),
+    /// Writes a text to the screen, and then to the log.
+    pub fn print<W: World>(&mut self, world: &mut W, text: &[u8]) -> Result<(), Target>
+        ensures wrote { Wrote target_stop (W.state world.old) (W.state world.new) (prints self.old.log text.now) result }
+        ensures kept { OnOk result (self.new.log ≡ self.old.log) }
+    {
+        say(world, text)?;
+        self.log(world, text)
     }
-}
 
-/// Refuses the script: the line that says so goes to the screen, and then to the log.
-pub fn refuse<W: World>(
-    alloc: Global,
-    world: &mut W,
-    options: &Options,
-    line: u32,
-    cause: Cause,
-) -> Result<Ending, Fault>
-    ensures wrote { Wrote (stop_of options.now) (W.told world.old) (W.told world.new) (W.faults world.old) (W.faults world.new) (refused options.now.log line cause) result }
-    ensures ending { IfOk result (λ ending. ending ≡ Ending.Refused line cause) }
-{
-    let text = refusal_line(alloc, line, &cause)?;
-    tell(world, &options.log, text.as_bytes())?;
-    Ok(Ending::Refused { line, cause })
+    /// Echoes the lines of a command in this style.
+    pub fn echo<W: World>(&mut self, world: &mut W, style: Echo, text: &[u8]) -> Result<(), Target>
+        ensures { Wrote target_stop (W.state world.old) (W.state world.new) (echoes style self.old.log text.now) result }
+    {
+        match style {
+            Echo::None => Ok(()),
+            Echo::Screen => say(world, text),
+            Echo::Log => self.log(world, text),
+            Echo::Both => self.print(world, text),
+        }
+    }
+
+    /// Starts the log, where there is one.
+    pub fn start_log<W: World>(&mut self, world: &mut W) -> Result<(), Target>
+        ensures { Wrote target_stop (W.state world.old) (W.state world.new) (starts_log self.old.log) result }
+    {
+        let Some(name) = &self.log else {
+            return Ok(());
+        };
+        match world.start(name.as_str()) {
+            Ok(()) => Ok(()),
+            Err(_) => Err(self.log_target()),
+        }
+    }
 }

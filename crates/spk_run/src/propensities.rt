@@ -1,9 +1,10 @@
-//! The propensities of the sites: how readily each takes its other value, at temperature 0.
+//! The propensities of Ising sites on a chain: how readily each takes its other value, at temperature 0.
 
 ghost use Rattle.std.specs.Prelude.{◌≡◌, ◌+◌, ◌-◌, ◌^◌, ◌<◌, ◌≤◌, length, sum, take, slice_index, slice_set, IfOk};
-ghost use Rattle.spk_run.specs.Turn.{energy_of, propensity_of, propensities_of, turned};
+ghost use Rattle.spk_run.specs.Ising.{chain, energy_of, flipped, whole_chain};
+ghost use Rattle.spk_run.specs.Turns.{propensity, propensities};
 
-use crate::sites::Values;
+use crate::values::Values;
 use std::alloc::{AllocError, Global};
 use std::marker::Model;
 
@@ -26,12 +27,12 @@ fn seen(values: &Values, neighbour: usize, place: usize, value: u32) -> u32
 /// The energy of the site at `place`, where it has this value.
 fn energy_with(values: &Values, place: usize, value: u32) -> u32
     requires { place < length values.now }
-    ensures { result ≡ energy_of (slice_set values.now place value) place }
+    ensures { result ≡ energy_of (chain (length values.now)) (slice_set values.now place value) place }
 {
     let sites = values.len();
     let before = seen(values, (place + sites - 1) % sites, place, value);
-    let behind = seen(values, (place + 1) % sites, place, value);
-    u32::from(before != value) + u32::from(behind != value)
+    let after = seen(values, (place + 1) % sites, place, value);
+    u32::from(before != value) + u32::from(after != value)
 }
 
 /// The value that the site at `place` does not have: values are 1 and 2.
@@ -45,7 +46,7 @@ fn other_value(values: &Values, place: usize) -> u32
 /// How readily the site at `place` takes its other value.
 fn propensity(values: &Values, place: usize) -> u64
     requires { place < length values.now }
-    ensures weight { result ≡ propensity_of values.now place }
+    ensures weight { result ≡ propensity (whole_chain (length values.now)) values.now place }
     ensures at_most { result ≤ 2 ^ 30 }
 {
     let before = energy_with(values, place, values.get(place));
@@ -73,9 +74,9 @@ impl Model for Propensities {
 impl Propensities {
     /// The propensities of these sites.
     pub fn of(alloc: Global, values: &Values) -> Result<Propensities, AllocError>
-        ensures { IfOk result (λ p. p ≡ propensities_of values.now) }
+        ensures { IfOk result (λ p. p ≡ propensities (whole_chain (length values.now)) values.now) }
     {
-        let mut weights = Vec::new(alloc);
+        let mut weights = Vec::with_capacity(alloc, values.len())?;
         let mut total = 0;
         'sites: for place in 0..values.len() {
             let weight = propensity(values, place);
@@ -94,7 +95,7 @@ impl Propensities {
     }
 
     /// The place of the first site where the running sum of the propensities, itself included, passes `target`.
-    pub fn place_of(&self, target: u64) -> usize
+    pub fn select(&self, target: u64) -> usize
         requires { target < sum self.now }
         ensures within { result < length self.now }
         ensures not_before { sum (take result self.now) ≤ target }
@@ -114,7 +115,7 @@ impl Propensities {
     fn refresh(&mut self, values: &Values, place: usize)
         requires same { length self.old ≡ length values.now }
         requires within { place < length values.now }
-        ensures { self.new ≡ slice_set self.old place (propensity_of values.now place) }
+        ensures { self.new ≡ slice_set self.old place (propensity (whole_chain (length values.now)) values.now place) }
     {
         let weight = propensity(values, place);
         self.total = self.total - self.weights[place] + weight;
@@ -123,12 +124,13 @@ impl Propensities {
 
     /// Gives the site at `place` its other value. Its propensity and those of its neighbours are taken anew:
     /// no other depends on it.
-    #[tactic(auto, using(crate::proofs::Weights::one_turn))]
-    pub fn turn_site(&mut self, values: &mut Values, place: usize)
-        requires afresh { self.old ≡ propensities_of values.old }
+    #[tactic(auto, using(crate::proofs::Weights::one_flip))]
+    pub fn flip(&mut self, values: &mut Values, place: usize)
+        requires afresh { self.old ≡ propensities (whole_chain (length values.old)) values.old }
         requires within { place < length values.old }
-        ensures values { values.new ≡ turned values.old place }
-        ensures afresh { self.new ≡ propensities_of values.new }
+        ensures values { values.new ≡ flipped values.old place }
+        ensures sites { length values.new ≡ length values.old }
+        ensures afresh { self.new ≡ propensities (whole_chain (length values.old)) values.new }
     {
         let sites = values.len();
         let value = other_value(values, place);
@@ -145,17 +147,17 @@ mod tests {
     use std::test::Fail;
 
     #[test]
-    fn takes_anew_what_a_turn_changes(rt: HostRuntime) -> Result<(), Fail> {
-        // The values 1 1 2 1 1: only the site in the middle and its neighbours may turn.
+    fn takes_anew_what_a_flip_changes(rt: HostRuntime) -> Result<(), Fail> {
+        // The values 1 1 2 1 1: only the site in the middle and its neighbours may flip.
         let mut values = Values::filled(rt.alloc(), 5, 1)?;
         values.set(2, 2);
         let mut propensities = Propensities::of(rt.alloc(), &values)?;
         assert_eq!(rt; propensities.total(), 3 * UNIT);
         for (target, place) in [(0, 1), (UNIT - 1, 1), (UNIT, 2), (3 * UNIT - 1, 3)] {
             assert!(rt; target < propensities.total());
-            assert_eq!(rt; propensities.place_of(target), place, "at {target}");
+            assert_eq!(rt; propensities.select(target), place, "at {target}");
         }
-        propensities.turn_site(&mut values, 2);
+        propensities.flip(&mut values, 2);
         assert_eq!(rt; values.get(2), 1);
         assert_eq!(rt; propensities.total(), 0);
         Ok(())

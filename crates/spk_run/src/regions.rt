@@ -118,7 +118,7 @@ impl Regions {
         Some(region.block)
     }
 
-    /// Puts one more region behind the others.
+    /// Puts one more region after the others.
     pub fn push(&mut self, alloc: Global, name: &Text, block: Block) -> Result<(), AllocError>
         ensures { IfOk result (λ _. self.new ≡ self.old ++ (record { name = name.now; block = block }) ∷ []) }
     {

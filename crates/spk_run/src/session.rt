@@ -1,136 +1,45 @@
 //! The session: it obeys the commands of a script, one after another.
 
-ghost use Rattle.std.specs.Prelude.{◌≡◌, ◌++◌, ◌∷◌, ◌+◌, ◌^◌, ◌<◌, ◌≤◌, [], None, vec_capacity, IfOk, IfErr, IfSome};
-ghost use Rattle.spk_cmds.specs.Ranges.{InRanges};
+ghost use Rattle.std.specs.Prelude.{◌≡◌, IfOk, IfNone};
+ghost use Rattle.spk_cmds.specs.WellFormed.{IsWellFormed};
 ghost use Rattle.spk_world.specs.Effects.{Wrote};
-ghost use Rattle.spk_run.specs.Session.{new_state, cause, ran_on, done_by, obeyed};
-ghost use Rattle.spk_run.specs.Troubles.{trouble_stop, obeyed_to, done_to, RefusedFor, Unwritten, Unchanged, IsDone, NamesLog};
-ghost use Rattle.spk_run.specs.Turn.{propensities_of};
+ghost use Rattle.spk_run.specs.Causes.{FileRefusalRose};
+ghost use Rattle.spk_run.specs.Commands.{cause, obeys};
+ghost use Rattle.spk_run.specs.Endings.{EndingFileCause, refuses, NoneRose};
+ghost use Rattle.spk_run.specs.Faults.{fault_stop, trouble_stop, verdict, obeyed_to, trouble_of, IsRefusal, IfRefused, OnRefusal, Unwritten, Leaves, IsCompleteCommand};
+ghost use Rattle.spk_run.specs.Output.{starts_log, echoes};
+ghost use Rattle.spk_run.specs.States.{new_state};
 
-use crate::output::{log_copy, tell};
-use crate::run::{RunRoom, RunTimes, run};
-use crate::state::{Domain, SessionState, ticks_of};
-use crate::trouble::Trouble;
-use spk_cmds::{Command, Echo, Options};
+use crate::answer::Ending;
+use crate::cause::Cause;
+use crate::fault::{Fault, Trouble};
+use crate::messages::refusal_line;
+use crate::output::Output;
+use crate::state::SessionState;
+use spk_cmds::{Command, Options};
 use spk_num::OutOfMemory;
-use spk_num::text::Text;
 use spk_world::World;
-use std::alloc::{AllocError, Global};
+use std::alloc::Global;
 
 /// A session of the simulator: what the commands so far have set and made.
 ///
-/// All ranks run in this thread. After a failed write the session is of no more use.
+/// All ranks run in this thread. It has the name of the log to which it writes.
 #[derive(Debug, Drop)]
 pub struct Session {
     alloc: Global,
     state: SessionState,
 }
 
-/// A text with a line feed behind it.
-fn with_line_feed(alloc: Global, text: &[u8]) -> Result<Vec<u8>, AllocError>
-    ensures { IfOk result (λ line. line.items ≡ text.now ++ 10 ∷ []) }
+/// Why a command was not obeyed, where it was not.
+fn trouble_of(obeyed: Result<Result<(), Cause>, Fault>) -> Result<(), Trouble>
+    ensures { result ≡ trouble_of obeyed }
 {
-    let mut line = Vec::with_capacity(alloc, text.len().saturating_add(1))?;
-    line.extend_from_slice(text)?;
-    line.push(b'\n')?;
-    Ok(line)
-}
-
-impl SessionState {
-    /// Prints a text to the screen, and then to the log.
-    fn print<W: World>(&self, alloc: Global, text: &Text, world: &mut W) -> Result<(), Trouble>
-        ensures wrote { Wrote trouble_stop (W.told world.old) (W.told world.new) (W.faults world.old) (W.faults world.new)
-            (done_by self.now (Command.Print text.now)) (done_to self.now result) }
-        ensures unwritten { Unwritten (W.told world.old) (W.told world.new) result }
-        ensures done { IsDone self.now.log result }
-    {
-        let line = with_line_feed(alloc, text.as_bytes())?;
-        let log = log_copy(alloc, &self.log)?;
-        match tell(world, &log, &line) {
-            Ok(()) => Ok(()),
-            Err(trouble) => Err(Trouble::WriteFault(trouble.target(log))),
-        }
-    }
-
-    /// Runs the box with this room for so many ticks.
-    fn run_with<W: World>(
-        &mut self,
-        mut room: RunRoom,
-        length: u64,
-        world: &mut W,
-    ) -> Result<(), Trouble>
-        requires line { 128 ≤ vec_capacity room.line }
-        requires afresh { IfSome self.old.domain (λ domain. room.propensities ≡ propensities_of domain.sites.values) }
-        requires fits { IfSome self.old.domain (λ domain. domain.time + length < 2 ^ 64) }
-        requires log { room.log ≡ self.old.log }
-        ensures wrote { Wrote trouble_stop (W.told world.old) (W.told world.new) (W.faults world.old) (W.faults world.new)
-            (ran_on self.old length self.old.domain) (done_to self.new result) }
-        ensures unwritten { Unwritten (W.told world.old) (W.told world.new) result }
-        ensures done { IsDone self.old.log result }
-        ensures log { self.new.log ≡ self.old.log }
-    {
-        let Some(domain) = self.domain.take() else {
-            return Ok(());
-        };
-        let Domain {
-            lattice,
-            time,
-            sites,
-        } = domain;
-        let times = RunTimes {
-            start: time,
-            length,
-            delta: self.delta,
-        };
-        match run(world, &mut room, times, sites) {
-            Ok(sites) => {
-                self.domain = Some(Domain {
-                    lattice,
-                    time: time + length,
-                    sites,
-                });
-                Ok(())
-            }
-            Err(trouble) => Err(Trouble::WriteFault(trouble.target(room.log))),
-        }
-    }
-
-    /// Runs for so many ticks. Memory is taken before the first write.
-    fn run<W: World>(&mut self, alloc: Global, length: u64, world: &mut W) -> Result<(), Trouble>
-        requires { IfSome self.old.domain (λ domain. domain.time + length < 2 ^ 64) }
-        ensures wrote { Wrote trouble_stop (W.told world.old) (W.told world.new) (W.faults world.old) (W.faults world.new)
-            (ran_on self.old length self.old.domain) (done_to self.new result) }
-        ensures unwritten { Unwritten (W.told world.old) (W.told world.new) result }
-        ensures done { IsDone self.old.log result }
-        ensures log { self.new.log ≡ self.old.log }
-    {
-        let Some(domain) = &self.domain else {
-            return Ok(());
-        };
-        let room = RunRoom::new(alloc, &domain.sites.values, &self.log)?;
-        self.run_with(room, length, world)
-    }
-
-    /// Obeys a command that isn't refused.
-    fn done<W: World>(
-        &mut self,
-        alloc: Global,
-        command: &Command,
-        world: &mut W,
-    ) -> Result<(), Trouble>
-        requires ranges { InRanges command.now }
-        requires free { cause self.old command.now ≡ None }
-        ensures wrote { Wrote trouble_stop (W.told world.old) (W.told world.new) (W.faults world.old) (W.faults world.new)
-            (done_by self.old command.now) (done_to self.new result) }
-        ensures unwritten { Unwritten (W.told world.old) (W.told world.new) result }
-        ensures done { IsDone self.old.log result }
-        ensures log { self.new.log ≡ self.old.log }
-    {
-        match command {
-            Command::Run { length } => self.run(alloc, ticks_of(*length), world),
-            Command::Print { text } => self.print(alloc, text, world),
-            _ => Ok(self.set(alloc, command)?),
-        }
+    match obeyed {
+        Ok(Ok(())) => Ok(()),
+        Ok(Err(cause)) => Err(Trouble::Refused(cause)),
+        Err(Fault::Read(name)) => Err(Trouble::ReadFault(name)),
+        Err(Fault::Write(target)) => Err(Trouble::WriteFault(target)),
+        Err(Fault::Memory) => Err(Trouble::Memory),
     }
 }
 
@@ -143,29 +52,73 @@ impl Session {
         Ok(Session { alloc, state })
     }
 
-    /// The style in which the lines of commands are echoed.
-    pub(crate) fn echo(&self) -> Echo
-        ensures { result ≡ self.now.state.echo }
+    /// Starts the log, where there is one.
+    pub(crate) fn start_log<W: World>(&self, world: &mut W) -> Result<(), Fault>
+        ensures { Wrote fault_stop (W.state world.old) (W.state world.new) (starts_log self.now.state.log) result }
     {
-        self.state.echo
+        let mut output = Output::new(self.alloc, &self.state.log)?;
+        output.start_log(world)?;
+        Ok(())
+    }
+
+    /// Echoes the lines of a command, as they stand in the script.
+    pub(crate) fn echo<W: World>(&self, world: &mut W, text: &[u8]) -> Result<(), Fault>
+        ensures { Wrote fault_stop (W.state world.old) (W.state world.new) (echoes self.now.state.echo self.now.state.log text.now) result }
+    {
+        let mut output = Output::new(self.alloc, &self.state.log)?;
+        output.echo(world, self.state.echo, text)?;
+        Ok(())
+    }
+
+    /// Refuses the script: the line that says so goes to the screen, and then to the log.
+    pub(crate) fn refuse<W: World>(
+        &self,
+        world: &mut W,
+        line: u32,
+        cause: Cause,
+    ) -> Result<Ending, Fault>
+        ensures wrote { Wrote fault_stop (W.state world.old) (W.state world.new) (refuses self.now.state.log line cause) result }
+        ensures ending { IfOk result (λ ending. ending ≡ Ending.Refused line cause) }
+    {
+        let text = refusal_line(self.alloc, line, &cause)?;
+        let mut output = Output::new(self.alloc, &self.state.log)?;
+        output.print(world, text.as_bytes())?;
+        Ok(Ending::Refused { line, cause })
+    }
+
+    /// Obeys a command, or refuses it for a cause.
+    pub(crate) fn obey_or_refuse<W: World>(
+        &mut self,
+        command: &Command,
+        world: &mut W,
+    ) -> Result<Result<(), Cause>, Fault>
+        requires { IsWellFormed command.now }
+        ensures wrote { Wrote fault_stop (W.state world.old) (W.state world.new) (obeys self.old.state command.now) (verdict self.new.state result) }
+        ensures refused { OnRefusal result (IsRefusal (cause self.old.state command.now)) }
+        ensures untold { IfNone (W.state world.old).told (OnRefusal result (FileRefusalRose (W.state world.old).faults (W.state world.new).faults)) }
+        ensures unwritten { Unwritten (W.state world.old).told (W.state world.new).told (trouble_of result) }
+        ensures leaves { Leaves (W.state world.old).told (obeys self.old.state command.now) self.old.state self.new.state (trouble_of result) }
+    {
+        if let Some(cause) = self.state.cause(self.alloc, command)? {
+            return Ok(Err(cause));
+        }
+        self.state.perform(self.alloc, command, world)?;
+        Ok(Ok(()))
     }
 
     /// Obeys a command, or refuses it: of several causes it is the one with the least number.
     ///
-    /// All memory is taken before the first write. A command that is refused has changed and written nothing.
+    /// All memory is taken before the first write.
     pub fn obey<W: World>(&mut self, command: &Command, world: &mut W) -> Result<(), Trouble>
-        requires { InRanges command.now }
-        ensures wrote { Wrote trouble_stop (W.told world.old) (W.told world.new) (W.faults world.old) (W.faults world.new)
-            (obeyed self.old.state command.now) (obeyed_to self.new.state result) }
-        ensures refused { RefusedFor (cause self.old.state command.now) result }
-        ensures unwritten { Unwritten (W.told world.old) (W.told world.new) result }
-        ensures unchanged { Unchanged self.old.state self.new.state result }
-        ensures names { IfErr result (NamesLog self.old.state.log) }
-        ensures log { self.new.state.log ≡ self.old.state.log }
+        requires { IsWellFormed command.now }
+        ensures wrote { Wrote trouble_stop (W.state world.old) (W.state world.new) (obeys self.old.state command.now) (obeyed_to self.new.state result) }
+        ensures refused { IfRefused result (IsRefusal (cause self.old.state command.now)) }
+        ensures untold { IfNone (W.state world.old).told (IfRefused result (FileRefusalRose (W.state world.old).faults (W.state world.new).faults)) }
+        ensures unwritten { Unwritten (W.state world.old).told (W.state world.new).told result }
+        ensures leaves { Leaves (W.state world.old).told (obeys self.old.state command.now) self.old.state self.new.state result }
+        ensures complete { NoneRose (W.state world.old).faults (W.state world.new).faults →
+            IsCompleteCommand (W.state world.old).told (obeys self.old.state command.now) self.new.state result }
     {
-        if let Some(cause) = self.state.cause(self.alloc, command)? {
-            return Err(Trouble::Refused(cause));
-        }
-        self.state.done(self.alloc, command, world)
+        trouble_of(self.obey_or_refuse(command, world))
     }
 }

@@ -1,143 +1,208 @@
-//! Tests of the top call over a world in memory.
+//! Commands that a session obeys one by one, and the exit statuses. Whole runs of the program are data of `spk_cases`.
 
-mod cases;
-mod command_lines;
-mod command_vectors;
-mod example;
-mod faults;
-mod language;
-mod language_vectors;
-mod plain_rule;
-mod refusals;
-mod runs;
-mod sessions;
-mod vectors;
-
-use crate::{Answer, simulate_alone, status};
+use crate::{Answer, Cause, Session, Target, Trouble, status};
+use spk_cmds::{Command, Echo, Input, Options, Settings, command_of};
+use spk_num::text::Text;
 use spk_world::{Fail, MemWorld};
 use std::alloc::{AllocError, Global};
 use std::process::Abort;
-
-/// The name of the only file of the world before a run.
-const SCRIPT: &str = "in.line";
+use std::test::Fail as TestFailed;
 
 /// The name of the log.
 const LOG: &str = "log.spparks";
 
-/// The lines of the example.
-const EXAMPLE: [&str; 11] = [
+/// A session with a log, and a world in which it is used.
+#[derive(Drop)]
+struct Bench {
+    alloc: Global,
+    session: Session,
+    world: MemWorld,
+}
+
+/// What a command line asks for that names a log.
+fn options(alloc: Global) -> Result<Options, AllocError> {
+    Ok(Options {
+        input: Input::File(Text::copy(alloc, "in")?),
+        vars: Settings::new(alloc),
+        log: Some(Text::copy(alloc, LOG)?),
+        echo: Echo::Log,
+        workers: 1,
+        workers_word: 0,
+    })
+}
+
+impl Bench {
+    /// A new session.
+    fn new(alloc: Global) -> Result<Bench, AllocError> {
+        let options = options(alloc)?;
+        Ok(Bench {
+            alloc,
+            session: Session::new(alloc, &options)?,
+            world: MemWorld::new(alloc),
+        })
+    }
+
+    /// Obeys a line.
+    fn obey(&mut self, line: &str) -> Result<Result<(), Trouble>, TestFailed> {
+        let mut words = Vec::new(self.alloc);
+        for word in line.split(' ') {
+            words.push(Text::copy(self.alloc, word)?)?;
+        }
+        match command_of(self.alloc, &words) {
+            Ok(command) => Ok(self.session.obey(&command, &mut self.world)),
+            Err(_) => Err("a command")?,
+        }
+    }
+
+    /// Obeys lines, none of which is refused.
+    fn obey_all(&mut self, rt: &impl Abort, lines: &[&str]) -> Result<(), TestFailed> {
+        for line in lines {
+            let obeyed = self.obey(line)?;
+            assert!(rt; obeyed.is_ok(), "{line}");
+        }
+        Ok(())
+    }
+
+    /// The screen and the log hold this.
+    fn expect(&self, rt: &impl Abort, text: &str) {
+        assert!(rt;
+            self.world.said.as_slice() == text.as_bytes(),
+            "screen: {text}"
+        );
+        match self.world.files.get(LOG) {
+            Some(log) => assert!(rt; log.as_slice() == text.as_bytes(), "log: {text}"),
+            None => assert!(rt; text.is_empty(), "no log"),
+        }
+    }
+}
+
+/// What makes ten sites with the value 1.
+const SITES: [&str; 7] = [
     "seed 12345",
     "app_style ising",
     "lattice line/2n 1.0",
     "region box block 0 10 0 1 0 1",
     "create_box box",
     "create_sites box",
-    "set site value 1",
-    "temperature 0.0",
     "solve_style linear",
-    "stats 1.0",
-    "run 2.0",
 ];
 
-/// What the example says.
-const EXAMPLE_SCREEN: &str = "Time Naccept Nreject Nsweeps\n\
-    0.000000000 0 0 0\n\
-    1.000000000 0 0 0\n\
-    2.000000000 0 0 0\n";
+/// What a run of so many units says, from 0.
+const RUN: &str = "Time Naccept Nreject Nsweeps\n0.000000000 0 0 0\n2.000000000 0 0 0\n";
 
-/// What a run of the program left behind, and its answer.
-#[derive(Drop)]
-struct Ended {
-    world: MemWorld,
-    answer: Answer,
+#[test]
+fn obeys_commands(rt: HostRuntime) -> Result<(), TestFailed> {
+    let mut bench = Bench::new(rt.alloc())?;
+    bench.obey_all(&rt, &SITES)?;
+    bench.expect(&rt, "");
+    bench.obey_all(&rt, &["run 2"])?;
+    bench.expect(&rt, RUN);
+    Ok(())
 }
 
-impl Ended {
-    /// The bytes of the log, where there is one.
-    fn log(&self) -> Option<&[u8]> {
-        self.world.files.get(LOG).map(|log| log.as_slice())
+#[test]
+fn prints_to_the_screen_and_the_log(rt: HostRuntime) -> Result<(), TestFailed> {
+    let mut bench = Bench::new(rt.alloc())?;
+    bench.obey_all(&rt, &["print hello", "print there"])?;
+    bench.expect(&rt, "hello\nthere\n");
+    Ok(())
+}
+
+/// A command that is refused writes nothing, and the session goes on as if it had not come.
+#[test]
+fn refuses_commands(rt: HostRuntime) -> Result<(), TestFailed> {
+    let mut bench = Bench::new(rt.alloc())?;
+    let refused = bench.obey("run 2")?;
+    assert!(rt; matches!(refused, Err(Trouble::Refused(Cause::NoApp))));
+    bench.obey_all(&rt, &SITES)?;
+    let refused = bench.obey("create_sites box")?;
+    assert!(rt; matches!(refused, Err(Trouble::Refused(Cause::AlreadyMade))));
+    bench.expect(&rt, "");
+    bench.obey_all(&rt, &["run 2"])?;
+    bench.expect(&rt, RUN);
+    Ok(())
+}
+
+/// The first call of the world fails after so many bytes.
+fn fails_at(bench: &mut Bench, call: u64, bytes: u64) -> Result<(), AllocError> {
+    bench.world.fail_at.push(Fail { call, bytes })?;
+    Ok(())
+}
+
+#[test]
+fn names_the_screen_that_failed(rt: HostRuntime) -> Result<(), TestFailed> {
+    let mut bench = Bench::new(rt.alloc())?;
+    fails_at(&mut bench, 1, 3)?;
+    let failed = bench.obey("print hello")?;
+    assert!(rt; matches!(failed, Err(Trouble::WriteFault(Target::Screen))));
+    assert!(rt; bench.world.said.as_slice() == b"hel".as_slice());
+    assert!(rt; bench.world.files.get(LOG).is_none());
+    Ok(())
+}
+
+/// The file whose write failed.
+fn file_of(obeyed: Result<(), Trouble>) -> Option<Text> {
+    match obeyed {
+        Err(Trouble::WriteFault(Target::File(name))) => Some(name),
+        _ => None,
     }
+}
 
-    /// The run ended with this status, and left this screen, this log and no other new file.
-    fn expect(
-        &self,
-        rt: &impl Abort,
-        status_wanted: u8,
-        screen: &str,
-        log: Option<&str>,
-        what: &str,
-    ) {
-        assert_eq!(rt; status(&self.answer), status_wanted, "status: {what}");
-        assert!(rt;
-            self.world.said.as_slice() == screen.as_bytes(),
-            "screen: {what}"
-        );
-        let files = 1 + usize::from(log.is_some());
-        assert_eq!(rt; self.world.files.len(), files, "files: {what}");
-        match (self.log(), log) {
-            (Some(found), Some(wanted)) => assert!(rt; found == wanted.as_bytes(), "log: {what}"),
-            (found, wanted) => assert_eq!(rt; found.is_some(), wanted.is_some(), "log: {what}"),
-        }
+#[test]
+fn names_the_log_that_failed(rt: HostRuntime) -> Result<(), TestFailed> {
+    let mut bench = Bench::new(rt.alloc())?;
+    fails_at(&mut bench, 2, 3)?;
+    let failed = bench.obey("print hello")?;
+    let name = file_of(failed).ok_or("a file")?;
+    assert!(rt; name.as_str() == LOG);
+    assert!(rt; bench.world.said.as_slice() == b"hello\n".as_slice());
+    Ok(())
+}
+
+/// After a failed write the session is the one after the whole run.
+#[test]
+fn goes_on_after_a_failed_write(rt: HostRuntime) -> Result<(), TestFailed> {
+    let mut bench = Bench::new(rt.alloc())?;
+    bench.obey_all(&rt, &SITES)?;
+    fails_at(&mut bench, 1, 0)?;
+    let failed = bench.obey("run 2")?;
+    assert!(rt; matches!(failed, Err(Trouble::WriteFault(Target::Screen))));
+    bench.expect(&rt, "");
+    bench.obey_all(&rt, &["run 2"])?;
+    bench.expect(
+        &rt,
+        "Time Naccept Nreject Nsweeps\n2.000000000 0 0 0\n4.000000000 0 0 0\n",
+    );
+    Ok(())
+}
+
+/// The word with which a command is refused as not built.
+fn unbuilt_word(refused: Result<(), Trouble>) -> Option<Text> {
+    match refused {
+        Err(Trouble::Refused(Cause::NotBuilt(word))) => Some(word),
+        _ => None,
     }
 }
 
-/// Runs the program with these words in a world with these files, where these calls fail.
-fn ran(
-    alloc: Global,
-    words: &[&str],
-    files: &[(&str, &[u8])],
-    fail_at: &[Fail],
-) -> Result<Ended, AllocError> {
-    let mut world = MemWorld::new(alloc);
-    for file in files {
-        world.put_file(file.0, file.1)?;
-    }
-    world.fail_at.extend_from_slice(fail_at)?;
-    let mut line = Vec::new(alloc);
-    for word in words {
-        line.push(String::from_str(alloc, word)?)?;
-    }
-    let answer = simulate_alone(alloc, &line, &mut world);
-    Ok(Ended { world, answer })
+#[test]
+fn refuses_what_is_not_built(rt: HostRuntime) -> Result<(), TestFailed> {
+    let mut bench = Bench::new(rt.alloc())?;
+    let refused = bench
+        .session
+        .obey(&Command::Dimension { d: 2 }, &mut bench.world);
+    let word = unbuilt_word(refused).ok_or("a word")?;
+    assert!(rt; word.as_str() == "dimension");
+    bench.expect(&rt, "");
+    Ok(())
 }
 
-/// Runs the program with these words in a world with this script, where these calls fail.
-fn simulated(
-    alloc: Global,
-    words: &[&str],
-    script: &[u8],
-    fail_at: &[Fail],
-) -> Result<Ended, AllocError> {
-    ran(alloc, words, &[(SCRIPT, script)], fail_at)
-}
-
-/// Runs a script, with a log.
-fn logged(alloc: Global, script: &[u8]) -> Result<Ended, AllocError> {
-    simulated(alloc, &["-in", SCRIPT], script, &[])
-}
-
-/// Runs a script without a log.
-fn unlogged(alloc: Global, script: &[u8]) -> Result<Ended, AllocError> {
-    simulated(alloc, &["-in", SCRIPT, "-log", "none"], script, &[])
-}
-
-fn put_line(text: &mut String, line: &str) -> Result<(), AllocError> {
-    text.push_str(line)?;
-    text.push('\n')
-}
-
-/// The first so many lines of the example.
-fn front_of_example(alloc: Global, count: usize) -> Result<String, AllocError> {
-    let mut text = String::new(alloc);
-    for line in EXAMPLE.iter().take(count) {
-        put_line(&mut text, line)?;
-    }
-    Ok(text)
-}
-
-/// Two texts, one behind the other.
-fn joined(alloc: Global, front: &str, back: &str) -> Result<String, AllocError> {
-    let mut text = String::from_str(alloc, front)?;
-    text.push_str(back)?;
-    Ok(text)
+#[test]
+fn gives_the_status_of_each_answer(rt: HostRuntime) {
+    let cause = Cause::NoSeed;
+    assert_eq!(rt; status(&Answer::Done), 0);
+    assert_eq!(rt; status(&Answer::Refused { line: 1, cause }), 1);
+    assert_eq!(rt; status(&Answer::Usage { word: 1 }), 2);
+    let target = Target::Screen;
+    assert_eq!(rt; status(&Answer::WriteFault { target }), 3);
+    assert_eq!(rt; status(&Answer::OutOfMemory), 4);
 }

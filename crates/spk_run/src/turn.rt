@@ -1,25 +1,27 @@
-//! A turn of the sites of a rank: events by the kinetic Monte Carlo rule until the end of a window.
+//! A turn of a rank: events by the kinetic Monte Carlo rule until the end of a window.
 
-ghost use Rattle.std.specs.Prelude.{◌≡◌, ℕ, suc, ◌+◌, ◌<◌, IfNone, IfSome};
-ghost use Rattle.spk_run.specs.Turn.{propensities_of, turn_from, turn_of};
+ghost use Rattle.std.specs.Prelude.{◌≡◌, ℕ, suc, ◌+◌, ◌<◌, length, IfNone, IfSome};
+ghost use Rattle.spk_run.specs.Ising.{whole_chain};
+ghost use Rattle.spk_run.specs.Turns.{propensities, turn_from, turn_of};
 
 use crate::propensities::Propensities;
-use crate::sites::Sites;
+use crate::rank_state::RankState;
 use spk_num::logarithm::wait;
 
-impl Sites {
+impl RankState {
     /// Does the next event, if it comes before so many ticks have passed, and gives the time that it took.
-    fn event(&mut self, propensities: &mut Propensities, rest: u64) -> Option<u64>
-        requires { propensities.old ≡ propensities_of self.old.values }
+    fn event(&mut self, kept: &mut Propensities, rest: u64) -> Option<u64>
+        requires { kept.old ≡ propensities (whole_chain (length self.old.values)) self.old.values }
         ensures ends { IfNone result ((more local : ℕ) →
-            turn_from (suc more) (local + rest) local self.old ≡ self.new) }
+            turn_from (whole_chain (length self.old.values)) (suc more) (local + rest) local self.old ≡ self.new) }
         ensures goes { IfSome result (λ ticks. (more local : ℕ) →
-            turn_from (suc more) (local + rest) local self.old
-            ≡ turn_from more (local + rest) (local + ticks) self.new) }
+            turn_from (whole_chain (length self.old.values)) (suc more) (local + rest) local self.old
+            ≡ turn_from (whole_chain (length self.old.values)) more (local + rest) (local + ticks) self.new) }
         ensures within { IfSome result (λ ticks. ticks < rest) }
-        ensures afresh { propensities.new ≡ propensities_of self.new.values }
+        ensures sites { length self.new.values ≡ length self.old.values }
+        ensures afresh { kept.new ≡ propensities (whole_chain (length self.old.values)) self.new.values }
     {
-        let total = propensities.total();
+        let total = kept.total();
         if total == 0 {
             return None;
         }
@@ -28,21 +30,22 @@ impl Sites {
         if ticks >= rest {
             return None;
         }
-        let place = propensities.place_of(target);
-        propensities.turn_site(&mut self.values, place);
-        self.accepted = self.accepted.saturating_add(1);
+        let place = kept.select(target);
+        kept.flip(&mut self.values, place);
+        self.counts.accept();
         Some(ticks)
     }
 
     /// A turn with a window of so many ticks: events, one after another, until the next would reach its end.
-    pub fn turn(&mut self, propensities: &mut Propensities, window: u64)
-        requires { propensities.old ≡ propensities_of self.old.values }
-        ensures sites { self.new ≡ turn_of window self.old }
-        ensures afresh { propensities.new ≡ propensities_of self.new.values }
+    pub fn turn(&mut self, kept: &mut Propensities, window: u64)
+        requires { kept.old ≡ propensities (whole_chain (length self.old.values)) self.old.values }
+        ensures state { self.new ≡ turn_of (whole_chain (length self.old.values)) window self.old }
+        ensures sites { length self.new.values ≡ length self.old.values }
+        ensures afresh { kept.new ≡ propensities (whole_chain (length self.old.values)) self.new.values }
     {
         let mut local = 0;
         'events: for _ in 0..window {
-            match self.event(propensities, window - local) {
+            match self.event(kept, window - local) {
                 Some(ticks) => local += ticks,
                 None => return,
             }
@@ -53,7 +56,8 @@ impl Sites {
 #[cfg(test)]
 mod tests {
     use super::*;
-    use crate::sites::Values;
+    use crate::counts::Counts;
+    use crate::values::Values;
     use spk_num::stream::Stream;
     use std::process::Abort;
     use std::test::Fail;
@@ -85,15 +89,15 @@ mod tests {
             values.draw(1, 2, &mut stream);
             expect_values(&rt, &values, drawn);
             let mut propensities = Propensities::of(rt.alloc(), &values)?;
-            let mut sites = Sites {
+            let mut rank = RankState {
                 values,
                 stream,
-                accepted: 0,
+                counts: Counts::none(),
             };
-            sites.turn(&mut propensities, window);
-            expect_values(&rt, &sites.values, left);
-            assert_eq!(rt; sites.stream.state(), state);
-            assert_eq!(rt; sites.accepted, accepted);
+            rank.turn(&mut propensities, window);
+            expect_values(&rt, &rank.values, left);
+            assert_eq!(rt; rank.stream.state(), state);
+            assert_eq!(rt; rank.counts.accepted, accepted);
         }
         Ok(())
     }
@@ -103,15 +107,18 @@ mod tests {
         let values = Values::filled(rt.alloc(), 4, 2)?;
         let stream = Stream::of_state(31).ok_or("a draw")?;
         let mut propensities = Propensities::of(rt.alloc(), &values)?;
-        let mut sites = Sites {
+        let mut rank = RankState {
             values,
             stream,
-            accepted: u64::MAX,
+            counts: Counts {
+                accepted: u64::MAX,
+                rejected: 0,
+            },
         };
-        sites.turn(&mut propensities, u64::MAX);
-        expect_values(&rt, &sites.values, "2222");
-        assert_eq!(rt; sites.stream.state(), 31);
-        assert_eq!(rt; sites.accepted, u64::MAX);
+        rank.turn(&mut propensities, u64::MAX);
+        expect_values(&rt, &rank.values, "2222");
+        assert_eq!(rt; rank.stream.state(), 31);
+        assert_eq!(rt; rank.counts.accepted, u64::MAX);
         Ok(())
     }
 }

@@ -36,10 +36,10 @@ past_holds (x ∷ xs) holds =
     ]
 
 given_by_holds : (line back : List ℕ) → All IsAllowedByte line → All IsAllowedByte back → All IsAllowedByte (given_by line back)
-given_by_holds line [] holds behind = holds
-given_by_holds line (b ∷ before) holds behind =
+given_by_holds line [] holds following = holds
+given_by_holds line (b ∷ before) holds following =
     elim (b == 38) as (λ c. All IsAllowedByte (cond c (reverse before) line)) [
-      | true ↦ reverse_holds before (All-tail IsAllowedByte b before behind)
+      | true ↦ reverse_holds before (All-tail IsAllowedByte b before following)
       | false ↦ holds
     ]
 

@@ -1,5 +1,5 @@
 -- The machine's way to the next command, line by line, and where it stands then.
-use Rattle.std.proofs.Common.{◌≡◌, ℕ, ◌+◌, ◌-◌, ◌<◌, ◌≤◌, ◌==◌, true, false, cond, List, [], ◌∷◌, length, get_or, drop, Some, None, inl, inr, refl, sym, ◌∙◌, ap, subst, arith}
+use Rattle.std.proofs.Common.{◌≡◌, ℕ, ◌+◌, ◌-◌, ◌<◌, ◌≤◌, ◌==◌, true, false, cond, List, [], ◌∷◌, length, get_or, drop, Some, None, inl, inr, refl, sym, ◌∙◌, ap, subst, arith, Result}
 use Rattle.std.proofs.lemmas.Bool.{cases_lt}
 use Rattle.std.proofs.lemmas.Bool.Decides.{nat_tests}
 use Rattle.std.proofs.lemmas.List.{drop_more, drop_all}
@@ -8,13 +8,13 @@ use Rattle.std.proofs.lemmas.Option.{slice_get-get_or, slice_get_within, get_or_
 use Rattle.std.proofs.lemmas.List.{get_or_default}
 use Rattle.std.specs.Prelude.{nat_lt, Ok, slice_get, zero, suc}
 use Rattle.std.specs.List.{AllPairs}
+use Rattle.spk_script.specs.declared.fault.LineFault.{LineFault}
 use Rattle.spk_script.specs.declared.machine.Arrival.{Arrival}
 use Rattle.spk_script.specs.declared.machine.Arrival.TheVariants.{At, End}
 use Rattle.spk_script.specs.CommandPlaces.{IsCommandAt, IsFirstFrom, IsTableUpTo}
 use Rattle.spk_script.specs.Lines.{LogicalLine, is_command, line_numbered}
-use Rattle.spk_script.specs.Faults.{Judged}
 use Rattle.spk_script.specs.Machine.{State, Arrived, arrive, arrive_at, arrive_where, arrive_ahead, line_at}
-use Rattle.spk_script.specs.Standing.{StandsAt, arrived_to}
+use Rattle.spk_script.specs.MachineStates.{StandsAt, arrived_to}
 
 ahead_first : (state : State) (place : ℕ) (line : LogicalLine) (lines : List LogicalLine) → is_command line ≡ true →
     arrive_ahead state place (line ∷ lines) ≡ arrive_at state place line.number
@@ -91,13 +91,13 @@ ahead_stands lines state place (line ∷ rest) rising left =
     ]
 
 -- an arrival stands at the line whose number it is
-pub arrived_stands : (lines : List LogicalLine) (state now : State) (answer : Judged Arrival) → AllPairs (λ line later. line.number < later.number) lines →
+pub arrived_stands : (lines : List LogicalLine) (state now : State) (answer : Result Arrival LineFault) → AllPairs (λ line later. line.number < later.number) lines →
     arrive lines state ≡ arrived_to now answer → StandsAt lines now answer
 arrived_stands lines state now answer rising is =
     subst (λ (a : Arrived). StandsAt lines a.state a.answer) is (ahead_stands lines state state.place (drop state.place lines) rising refl)
 
 -- an arrival at a command raises the count by one, and it stays within its limit
-abbrev pub CountsAt : State → State → Judged Arrival → Type 0
+abbrev pub CountsAt : State → State → Result Arrival LineFault → Type 0
 CountsAt before now (Ok (At number)) = (now.arrivals ≡ before.arrivals + 1) × (now.arrivals ≤ 1000000)
 CountsAt before now answer = Unit {0}
 
@@ -117,7 +117,7 @@ ahead_counts state place (line ∷ rest) =
       | false ↦ ahead_counts state (place + 1) rest
     ]
 
-pub arrived_counts : (lines : List LogicalLine) (state now : State) (answer : Judged Arrival) → arrive lines state ≡ arrived_to now answer → CountsAt state now answer
+pub arrived_counts : (lines : List LogicalLine) (state now : State) (answer : Result Arrival LineFault) → arrive lines state ≡ arrived_to now answer → CountsAt state now answer
 arrived_counts lines state now answer is = subst (λ (a : Arrived). CountsAt state a.state a.answer) is (ahead_counts state state.place (drop state.place lines))
 
 -- the first command from a place on, by the lines between
@@ -132,7 +132,7 @@ walk state lines (suc n) place at line first far =
     let within : place < length lines = omega (arith, less, first.within) in
     let same : get_or lines place line ≡ get_or lines place (get_or lines place line) = get_or_default lines place line (get_or lines place line) within in
     let next : IsFirstFrom lines (place + 1) at = record {
-      behind = omega (arith, less);
+      following = omega (arith, less);
       within = first.within;
       is = first.is;
       between = λ k from before. first.between k (omega (arith, from)) before;
@@ -142,7 +142,7 @@ walk state lines (suc n) place at line first far =
 
 pub ahead_first_from : (state : State) (lines : List LogicalLine) (place at : ℕ) (line : LogicalLine) → IsFirstFrom lines place at →
     arrive_ahead state place (drop place lines) ≡ arrive_at state at (get_or lines at line).number
-ahead_first_from state lines place at line first = walk state lines (at - place) place at line first (omega (arith, first.behind))
+ahead_first_from state lines place at line first = walk state lines (at - place) place at line first (omega (arith, first.following))
 
 -- no command from a place on
 walk_on : (state : State) (lines : List LogicalLine) (n place : ℕ) (line : LogicalLine) → length lines ≡ place + n →

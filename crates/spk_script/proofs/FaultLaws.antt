@@ -1,69 +1,21 @@
--- Laws of answers: what is the plain one in parts is the plain one as a whole.
-use Rattle.std.proofs.Common.{◌≡◌, Ok, Err, sym, ap, subst}
+-- Out of memory as the fault of a line. A search finds these, since they name the fault.
+use Rattle.std.proofs.Common.{◌≡◌, Result, refl}
 use Rattle.std.specs.Result.{IsErrAnd}
+use Rattle.spk_num.specs.Results.{IsPlainOrMemory, result_with}
+use Rattle.spk_num.proofs.ResultLaws.{plain_value, plain_fault, plain_wanting, plain_handed, plain_then, with_wanting, with_handed}
 use Rattle.spk_script.specs.declared.fault.LineFault.{LineFault}
 use Rattle.spk_script.specs.declared.fault.LineFault.TheVariants.{Memory}
-use Rattle.spk_script.specs.Faults.{Judged, ◌>>=◌, Answers}
-use Rattle.spk_script.specs.Machine.{State}
-use Rattle.spk_script.specs.Standing.{made_to}
+use Rattle.spk_script.specs.Faults.{is_memory}
 
--- what follows a value, and what follows a fault
-pub then_value : {A B : Type 0} (plain : Judged A) (next : A → Judged B) (a : A) → plain ≡ Ok a → plain >>= next ≡ next a
-unfolding ◌>>=◌
-then_value plain next a is = ap (λ p. p >>= next) is
+pub line_out_of_memory : {A : Type 0} (plain result : Result A LineFault) → IsErrAnd result (λ fault. fault ≡ Memory) →
+    IsPlainOrMemory is_memory plain result
+line_out_of_memory plain result wanting = plain_wanting is_memory plain result Memory wanting refl
 
-pub then_fault : {A B : Type 0} (plain : Judged A) (next : A → Judged B) (fault : LineFault) → plain ≡ Err fault → plain >>= next ≡ Err fault
-unfolding ◌>>=◌
-then_fault plain next fault is = ap (λ p. p >>= next) is
+pub line_with_out_of_memory : {A B : Type 0} (plain : Result A LineFault) (a : A) (result : Result B LineFault) →
+    IsErrAnd result (λ fault. fault ≡ Memory) → IsPlainOrMemory is_memory plain (result_with a result)
+line_with_out_of_memory plain a result wanting = with_wanting is_memory plain a result Memory wanting refl
 
--- an answer that is a value says which one the plain one is
-pub answers_is : {A : Type 0} (plain : Judged A) (a : A) → Answers plain (Ok a) → plain ≡ Ok a
-unfolding Answers
-answers_is plain a answers = answers
+-- what functions come to that judge something, and those that make a value
+pub ruleset judged = (plain_value, plain_fault, line_out_of_memory)
 
-pub answers_value : {A : Type 0} (plain : Judged A) (a : A) → plain ≡ Ok a → Answers plain (Ok a)
-unfolding Answers
-answers_value plain a is = is
-
-pub answers_fault : {A : Type 0} (plain : Judged A) (fault : LineFault) → plain ≡ Err fault → Answers plain (Err fault)
-unfolding Answers
-answers_fault plain fault is known = is
-
-pub answers_memory : {A : Type 0} (plain : Judged A) → Answers plain (Err Memory)
-unfolding Answers
-answers_memory plain known = cc
-
--- what comes after a value, and a fault that nothing comes after
-pub answers_then : {A B : Type 0} (plain : Judged A) (next : A → Judged B) (a : A) (result : Judged B) →
-    Answers plain (Ok a) → Answers (next a) result → Answers (plain >>= next) result
-answers_then plain next a result value answers = subst (λ p. Answers p result) (sym (then_value plain next a (answers_is plain a value))) answers
-
-pub answers_failed : {A B : Type 0} (plain : Judged A) (next : A → Judged B) (fault : LineFault) →
-    Answers plain (Err fault) → Answers (plain >>= next) (Err fault)
-unfolding Answers
-answers_failed plain next fault failed known = then_fault plain next fault (failed known)
-
--- where memory was wanting on the way
-pub answers_wanting : {A : Type 0} (plain result : Judged A) → IsErrAnd result (λ fault. fault ≡ Memory) → Answers plain result
-answers_wanting plain (Ok a) wanting = absurd wanting
-answers_wanting plain (Err fault) wanting = subst (λ f. Answers plain (Err f)) (sym wanting) (answers_memory plain)
-
-pub made_wanting : (plain : Judged State) (state : State) (result : Judged (Unit {0})) → IsErrAnd result (λ fault. fault ≡ Memory) → Answers plain (made_to state result)
-made_wanting plain state (Ok done) wanting = absurd wanting
-made_wanting plain state (Err fault) wanting = subst (λ f. Answers plain (Err f)) (sym wanting) (answers_memory plain)
-
--- where a fault is handed on
-pub answers_handed : {A B : Type 0} (plain : Judged A) (next : A → Judged B) (fault : LineFault) (result : Judged B) →
-    Answers plain (Err fault) → IsErrAnd result (λ f. f ≡ fault) → Answers (plain >>= next) result
-answers_handed plain next fault (Ok b) failed handed = absurd handed
-answers_handed plain next fault (Err f) failed handed = subst (λ e. Answers (plain >>= next) (Err e)) (sym handed) (answers_failed plain next fault failed)
-
-pub made_handed : {A : Type 0} (plain : Judged A) (next : A → Judged State) (fault : LineFault) (state : State) (result : Judged (Unit {0})) →
-    Answers plain (Err fault) → IsErrAnd result (λ f. f ≡ fault) → Answers (plain >>= next) (made_to state result)
-made_handed plain next fault state (Ok done) failed handed = absurd handed
-made_handed plain next fault state (Err f) failed handed = subst (λ e. Answers (plain >>= next) (Err e)) (sym handed) (answers_failed plain next fault failed)
-
--- what functions that judge something come to, and those that make a state
-pub ruleset judged = (answers_value, answers_fault, answers_wanting)
-
-pub ruleset made = (answers_value, answers_fault, made_wanting, made_handed, answers_then)
+pub ruleset made = (plain_value, plain_fault, line_with_out_of_memory, with_handed, plain_then)

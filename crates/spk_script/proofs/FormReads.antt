@@ -5,17 +5,17 @@ use Rattle.spk_script.specs.declared.formula.part.Operator.TheVariants.{Plus, Mi
 use Rattle.spk_script.specs.declared.formula.part.Token.{Token}
 use Rattle.spk_script.specs.declared.formula.part.Token.TheVariants.{Number, Name, Open, Close, Sign, Broken}
 use Rattle.spk_script.specs.declared.formula.part.Part.{Part}
-use Rattle.spk_script.specs.declared.formula.form.Standing.{Standing}
-use Rattle.spk_script.specs.declared.formula.form.Standing.TheVariants.{BeforeOperand, BehindOperand}
+use Rattle.spk_script.specs.declared.formula.form.FormState.{FormState}
+use Rattle.spk_script.specs.declared.formula.form.FormState.TheVariants.{BeforeOperand, AfterOperand}
 use Rattle.spk_script.specs.declared.fault.LineFault.TheVariants.{BadFormula}
 use Rattle.spk_script.specs.Formulas.{Formula, Operation, Goal, Expression, Term, Factor, MoreTerms, MoreFactors, Read, ◌then◌, is_sum, is_product, operator_by, operator_at, closed_by, closed, factor_by, factor_of, more_of_kind, read, begins_blank, ends_blank, whole, read_of, parts_of, formula_of}
-use Rattle.spk_script.specs.Forms.{parts_by, parts_formed, passed_before, passed_behind, fault_at_end, fault_after, fault_from, form_fault}
+use Rattle.spk_script.specs.Forms.{parts_by, parts_formed, passed_before, passed_after, fault_at_end, fault_after, fault_from, form_fault}
 
 -- where a goal begins, and how many steps are enough for so many parts
-abbrev pub standing_at : Goal → ℕ → Standing
-standing_at (MoreTerms formula) depth = BehindOperand depth
-standing_at (MoreFactors formula) depth = BehindOperand depth
-standing_at goal depth = BeforeOperand depth
+abbrev pub state_at : Goal → ℕ → FormState
+state_at (MoreTerms formula) depth = AfterOperand depth
+state_at (MoreFactors formula) depth = AfterOperand depth
+state_at goal depth = BeforeOperand depth
 
 abbrev pub steps_for : Goal → ℕ → ℕ
 steps_for Expression n = 3 * n + 3
@@ -51,45 +51,45 @@ Fewer goal rest parts = length rest < length parts
 
 module _ (text : List ℕ) where
   -- the fault is the same further on, at each depth
-  abbrev pub Passes : (ℕ → Standing) → List Part → (ℕ → Standing) → List Part → Type 0
+  abbrev pub Passes : (ℕ → FormState) → List Part → (ℕ → FormState) → List Part → Type 0
   Passes here parts there rest = (depth : ℕ) → fault_from text (here depth) parts ≡ fault_from text (there depth) rest
 
   -- what was read of a goal leaves this rest
   pub record Leaves (goal : Goal) (rest parts : List Part) : Type 0 where
-    pub follows : Passes (standing_at goal) parts BehindOperand rest
+    pub follows : Passes (state_at goal) parts AfterOperand rest
     pub ends : Ends goal rest
     pub fewer : Fewer goal rest parts
 
   abbrev pub Reads : Goal → List Part → Read → Type 0
   Reads goal parts (Ok found) = Leaves goal found.1 parts
-  Reads goal parts (Err place) = (depth : ℕ) → fault_from text (standing_at goal depth) parts ≡ Some place
+  Reads goal parts (Err place) = (depth : ℕ) → fault_from text (state_at goal depth) parts ≡ Some place
 
   -- what is read first, and then what is made of it
   then_reads : (goal first : Goal) (deeper : ℕ → ℕ) (parts inner : List Part) (next : Formula → List Part → Read) (r : Read) →
-      Passes (standing_at goal) parts (λ depth. standing_at first (deeper depth)) inner → Reads first inner r →
+      Passes (state_at goal) parts (λ depth. state_at first (deeper depth)) inner → Reads first inner r →
       ((formula : Formula) (rest : List Part) → Leaves first rest inner → Reads goal parts (next formula rest)) →
       Reads goal parts (r then next)
   then_reads goal first deeper parts inner next (Err place) starts reads goes = λ depth. starts depth ∙ reads (deeper depth)
   then_reads goal first deeper parts inner next (Ok found) starts leaves goes = goes found.0 found.1 leaves
 
-  -- what is read on behind it
+  -- what is read on after it
   on_reads : (goal first again : Goal) (parts inner rest : List Part) (r : Read) →
-      Passes (standing_at goal) parts (standing_at first) inner → Leaves first rest inner →
-      ((depth : ℕ) → standing_at again depth ≡ BehindOperand depth) → ((last : List Part) → Ends again last → Ends goal last) →
+      Passes (state_at goal) parts (state_at first) inner → Leaves first rest inner →
+      ((depth : ℕ) → state_at again depth ≡ AfterOperand depth) → ((last : List Part) → Ends again last → Ends goal last) →
       ((last : List Part) → Fewer again last rest → Fewer goal last parts) → Reads again rest r → Reads goal parts r
   on_reads goal first again parts inner rest (Err place) starts leaves stands ends fewer reads = λ depth.
-      starts depth ∙ leaves.follows depth ∙ ap (λ standing. fault_from text standing rest) (sym (stands depth)) ∙ reads depth
+      starts depth ∙ leaves.follows depth ∙ ap (λ state. fault_from text state rest) (sym (stands depth)) ∙ reads depth
   on_reads goal first again parts inner rest (Ok found) starts leaves stands ends fewer reads = record {
     follows = λ depth.
-        starts depth ∙ leaves.follows depth ∙ ap (λ standing. fault_from text standing rest) (sym (stands depth)) ∙ reads.follows depth;
+        starts depth ∙ leaves.follows depth ∙ ap (λ state. fault_from text state rest) (sym (stands depth)) ∙ reads.follows depth;
     ends = ends found.1 reads.ends;
     fewer = fewer found.1 reads.fewer;
   }
 
-  -- an operator at the front is passed
+  -- an operator at the start is passed
   operator_passed : (is : Operator → Bool) (token : Token) (place depth : ℕ) (parts : List Part) (found : Operator × List Part) →
       operator_by is token parts ≡ Some found →
-      (fault_after (passed_behind depth place token) (λ next. fault_from text next parts) ≡ fault_from text (BeforeOperand depth) found.1)
+      (fault_after (passed_after depth place token) (λ next. fault_from text next parts) ≡ fault_from text (BeforeOperand depth) found.1)
       × (parts ≡ found.1)
   operator_passed is (Sign operator) place depth parts found at =
       (elim (is operator) as (λ v. cond v (Some (operator, parts)) None ≡ Some found →
@@ -101,28 +101,28 @@ module _ (text : List ℕ) where
       ]) at
   operator_passed is token place depth parts found at = absurd (cc)
 
-  operator_in_front : (is : Operator → Bool) (parts : List Part) (found : Operator × List Part) → operator_at is parts ≡ Some found →
-      (length found.1 < length parts) × Passes BehindOperand parts BeforeOperand found.1
+  operator_first : (is : Operator → Bool) (parts : List Part) (found : Operator × List Part) → operator_at is parts ≡ Some found →
+      (length found.1 < length parts) × Passes AfterOperand parts BeforeOperand found.1
   unfolding fault_from
-  operator_in_front is [] found at = absurd (cc)
-  operator_in_front is (part ∷ parts) found at =
+  operator_first is [] found at = absurd (cc)
+  operator_first is (part ∷ parts) found at =
       let same : parts ≡ found.1 = (operator_passed is part.token part.place 0 parts found at).1 in
       let count : length parts ≡ length found.1 = ap length same in
       (omega arith, λ depth. (operator_passed is part.token part.place depth parts found at).0)
 
-  -- what isn't an operator and closes nothing can't stand behind an operand
-  stops_behind : (place : ℕ) (token : Token) (rest : List Part) → IsNoOperator token rest →
-      fault_after (passed_behind 0 place token) (λ next. fault_from text next rest) ≡ Some place
-  stops_behind place (Sign Plus) rest ends = absurd (cc (ends.0))
-  stops_behind place (Sign Minus) rest ends = absurd (cc (ends.0))
-  stops_behind place (Sign Times) rest ends = absurd (cc (ends.1))
-  stops_behind place (Sign Over) rest ends = absurd (cc (ends.1))
-  stops_behind place token rest ends = refl
+  -- what isn't an operator and closes nothing can't stand after an operand
+  stops_after : (place : ℕ) (token : Token) (rest : List Part) → IsNoOperator token rest →
+      fault_after (passed_after 0 place token) (λ next. fault_from text next rest) ≡ Some place
+  stops_after place (Sign Plus) rest ends = absurd (cc (ends.0))
+  stops_after place (Sign Minus) rest ends = absurd (cc (ends.0))
+  stops_after place (Sign Times) rest ends = absurd (cc (ends.1))
+  stops_after place (Sign Over) rest ends = absurd (cc (ends.1))
+  stops_after place token rest ends = refl
 
-  -- a parenthesis closes behind an expression
+  -- a parenthesis closes after an expression
   closed_by_reads : (parts rest : List Part) (place : ℕ) (formula : Formula) (part : Part) (token : Token) → length rest < length parts →
       ((depth : ℕ) → fault_from text (BeforeOperand depth) parts
-      ≡ fault_after (passed_behind (suc depth) part.place token) (λ next. fault_from text next rest)) →
+      ≡ fault_after (passed_after (suc depth) part.place token) (λ next. fault_from text next rest)) →
       IsNoOperator token rest → Reads Factor parts (closed_by place formula part rest token)
   closed_by_reads parts rest place formula part (Sign Plus) less starts ends = absurd (cc (ends.0))
   closed_by_reads parts rest place formula part (Sign Minus) less starts ends = absurd (cc (ends.0))
@@ -131,19 +131,19 @@ module _ (text : List ℕ) where
   closed_by_reads parts rest place formula part Close less starts ends = record { follows = starts; ends = tt; fewer = less }
   closed_by_reads parts rest place formula part token less starts ends = starts
 
-  closed_reads : (parts behind rest : List Part) (place : ℕ) (formula : Formula) → length behind < length parts →
-      Passes BeforeOperand parts (λ depth. BeforeOperand (depth + 1)) behind → Leaves Expression rest behind →
+  closed_reads : (parts following rest : List Part) (place : ℕ) (formula : Formula) → length following < length parts →
+      Passes BeforeOperand parts (λ depth. BeforeOperand (depth + 1)) following → Leaves Expression rest following →
       Reads Factor parts (closed (length text) place formula rest)
   unfolding fault_from
-  closed_reads parts behind [] place formula less starts leaves = λ depth.
+  closed_reads parts following [] place formula less starts leaves = λ depth.
       let one : depth + 1 ≡ suc depth = omega arith in
-      starts depth ∙ leaves.follows (depth + 1) ∙ ap (λ d. fault_at_end text (BehindOperand d)) one
-  closed_reads parts behind (part ∷ rest) place formula less starts leaves =
-      let fewer : length (part ∷ rest) < length behind = leaves.fewer in
+      starts depth ∙ leaves.follows (depth + 1) ∙ ap (λ d. fault_at_end text (AfterOperand d)) one
+  closed_reads parts following (part ∷ rest) place formula less starts leaves =
+      let fewer : length (part ∷ rest) < length following = leaves.fewer in
       closed_by_reads parts rest place formula part part.token (omega arith)
       (λ depth. let one : depth + 1 ≡ suc depth = omega arith in
       starts depth ∙ leaves.follows (depth + 1)
-      ∙ ap (λ d. fault_after (passed_behind d part.place part.token) (λ next. fault_from text next rest)) one) leaves.ends
+      ∙ ap (λ d. fault_after (passed_after d part.place part.token) (λ next. fault_from text next rest)) one) leaves.ends
 
   abbrev pub read_by : ℕ → Goal → List Part → Read
   read_by steps goal parts = read steps (length text) goal parts
@@ -178,11 +178,11 @@ module _ (text : List ℕ) where
         Reads (MoreTerms left) parts (more_of_kind (read_by steps) Term MoreTerms left parts found)
     more_terms_read left parts None none enough begins = record { follows = λ depth. refl; ends = (none, begins); fewer = omega arith }
     more_terms_read left parts (Some found) some enough begins =
-        let front = operator_in_front is_sum parts found some in
-        then_reads (MoreTerms left) Term (λ depth. depth) parts found.1 _ _ front.1 (each Term found.1 (omega arith) tt)
+        let prefix = operator_first is_sum parts found some in
+        then_reads (MoreTerms left) Term (λ depth. depth) parts found.1 _ _ prefix.1 (each Term found.1 (omega arith) tt)
         (λ right rest leaves. let less : length rest < length found.1 = leaves.fewer in
         let more : Goal = MoreTerms (Operation found.0 left right) in
-        on_reads (MoreTerms left) Term more parts found.1 rest _ front.1 leaves (λ depth. refl) (λ last ends. ends)
+        on_reads (MoreTerms left) Term more parts found.1 rest _ prefix.1 leaves (λ depth. refl) (λ last ends. ends)
         (λ last fewer. omega arith) (each more rest (omega arith) leaves.ends))
 
     more_factors_read : (left : Formula) (parts : List Part) (found : Option (Operator × List Part)) →
@@ -190,41 +190,41 @@ module _ (text : List ℕ) where
         Reads (MoreFactors left) parts (more_of_kind (read_by steps) Factor MoreFactors left parts found)
     more_factors_read left parts None none enough = record { follows = λ depth. refl; ends = none; fewer = omega arith }
     more_factors_read left parts (Some found) some enough =
-        let front = operator_in_front is_product parts found some in
-        then_reads (MoreFactors left) Factor (λ depth. depth) parts found.1 _ _ front.1 (each Factor found.1 (omega arith) tt)
+        let prefix = operator_first is_product parts found some in
+        then_reads (MoreFactors left) Factor (λ depth. depth) parts found.1 _ _ prefix.1 (each Factor found.1 (omega arith) tt)
         (λ right rest leaves. let less : length rest < length found.1 = leaves.fewer in
         let more : Goal = MoreFactors (Operation found.0 left right) in
-        on_reads (MoreFactors left) Factor more parts found.1 rest _ front.1 leaves (λ depth. refl) (λ last ends. ends)
+        on_reads (MoreFactors left) Factor more parts found.1 rest _ prefix.1 leaves (λ depth. refl) (λ last ends. ends)
         (λ last fewer. omega arith) (each more rest (omega arith) tt))
 
     -- a factor, by its first token
-    factor_reads : (parts behind : List Part) (place : ℕ) (token : Token) → length behind < length parts → 3 * length behind + 3 ≤ steps →
+    factor_reads : (parts following : List Part) (place : ℕ) (token : Token) → length following < length parts → 3 * length following + 3 ≤ steps →
         ((depth : ℕ) → fault_from text (BeforeOperand depth) parts
-        ≡ fault_after (passed_before depth place token) (λ next. fault_from text next behind)) →
-        Reads Factor parts (factor_by (read_by steps) (length text) place behind token)
-    factor_reads parts behind place (Number z) less enough starts = record { follows = starts; ends = tt; fewer = less }
-    factor_reads parts behind place (Name name) less enough starts = record { follows = starts; ends = tt; fewer = less }
-    factor_reads parts behind place (Sign Minus) less enough starts =
-        then_reads Factor Factor (λ depth. depth) parts behind _ _ starts (each Factor behind (omega arith) tt)
+        ≡ fault_after (passed_before depth place token) (λ next. fault_from text next following)) →
+        Reads Factor parts (factor_by (read_by steps) (length text) place following token)
+    factor_reads parts following place (Number z) less enough starts = record { follows = starts; ends = tt; fewer = less }
+    factor_reads parts following place (Name name) less enough starts = record { follows = starts; ends = tt; fewer = less }
+    factor_reads parts following place (Sign Minus) less enough starts =
+        then_reads Factor Factor (λ depth. depth) parts following _ _ starts (each Factor following (omega arith) tt)
         (λ formula rest leaves. record {
           follows = λ depth. starts depth ∙ leaves.follows depth;
           ends = tt;
           fewer = omega (arith, leaves.fewer);
         })
-    factor_reads parts behind place Open less enough starts =
-        then_reads Factor Expression (λ depth. depth + 1) parts behind _ _ starts (each Expression behind (omega arith) tt)
-        (λ formula rest leaves. closed_reads parts behind rest place formula less starts leaves)
-    factor_reads parts behind place (Sign Plus) less enough starts = starts
-    factor_reads parts behind place (Sign Times) less enough starts = starts
-    factor_reads parts behind place (Sign Over) less enough starts = starts
-    factor_reads parts behind place Close less enough starts = starts
-    factor_reads parts behind place (Broken at) less enough starts = starts
+    factor_reads parts following place Open less enough starts =
+        then_reads Factor Expression (λ depth. depth + 1) parts following _ _ starts (each Expression following (omega arith) tt)
+        (λ formula rest leaves. closed_reads parts following rest place formula less starts leaves)
+    factor_reads parts following place (Sign Plus) less enough starts = starts
+    factor_reads parts following place (Sign Times) less enough starts = starts
+    factor_reads parts following place (Sign Over) less enough starts = starts
+    factor_reads parts following place Close less enough starts = starts
+    factor_reads parts following place (Broken at) less enough starts = starts
 
     factor_of_reads : (parts : List Part) → 3 * length parts ≤ steps → Reads Factor parts (factor_of (read_by steps) (length text) parts)
     unfolding fault_from
     factor_of_reads [] enough = λ depth. refl
-    factor_of_reads (part ∷ behind) enough =
-        factor_reads (part ∷ behind) behind part.place part.token (omega arith) (omega arith) (λ depth. refl)
+    factor_of_reads (part ∷ following) enough =
+        factor_reads (part ∷ following) following part.place part.token (omega arith) (omega arith) (λ depth. refl)
 
   reads : (steps : ℕ) → ReadsEach steps
   unfolding read
@@ -255,7 +255,7 @@ unfolding fault_from
 fault_of_whole text parts (Err place) reads = reads 0
 fault_of_whole text parts (Ok (formula, [])) leaves = leaves.follows 0 ∙ fault_by_end text formula (ends_blank text)
 fault_of_whole text parts (Ok (formula, part ∷ rest)) leaves =
-    leaves.follows 0 ∙ stops_behind text part.place part.token rest leaves.ends
+    leaves.follows 0 ∙ stops_after text part.place part.token rest leaves.ends
 
 -- the fault of a text is that of its form
 fault_of_text : (text : List ℕ) → form_fault text (parts_of text) ≡ fault_of (formula_of text)

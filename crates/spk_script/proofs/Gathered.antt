@@ -9,7 +9,7 @@ use Rattle.spk_script.specs.Lines.{LogicalLine, runs_of, logical_line, put_line,
 use Rattle.spk_script.proofs.Allowed.{IsAllowed}
 use Rattle.spk_script.proofs.Runs.{nows}
 
--- lines that were read already, in front of what is read behind them
+-- lines that were read already, before what is read after them
 abbrev pub put_all : List LogicalLine → Result (List LogicalLine) ScriptFault → Result (List LogicalLine) ScriptFault
 put_all done (Ok lines) = Ok (done ++ lines)
 put_all done (Err fault) = Err fault
@@ -33,11 +33,11 @@ next rest number count within cut =
     ∙ ap (λ lines. put_line number (logical_line number (nows (take count rest))) (logical_lines (number + count) (runs_of lines))) others
 
 -- one logical line more
-reads_behind : (whole : Result (List LogicalLine) ScriptFault) (done : List LogicalLine) (rest : List (Bor (List ℕ))) (number count : ℕ) (line : LogicalLine) →
+reads_after : (whole : Result (List LogicalLine) ScriptFault) (done : List LogicalLine) (rest : List (Bor (List ℕ))) (number count : ℕ) (line : LogicalLine) →
     count ≤ length rest → runs_of (nows rest) ≡ take count (nows rest) ∷ runs_of (drop count (nows rest)) → Some line ≡ logical_line number (nows (take count rest)) →
     whole ≡ put_all done (logical_lines number (runs_of (nows rest))) →
     whole ≡ put_all (done ++ line ∷ []) (logical_lines (number + count) (runs_of (nows (drop count rest))))
-reads_behind whole done rest number count line within cut is so_far =
+reads_after whole done rest number count line within cut is so_far =
     so_far ∙ ap (put_all done) (next rest number count within cut)
     ∙ ap (λ found. put_all done (put_line number found (logical_lines (number + count) (runs_of (nows (drop count rest)))))) (sym is)
     ∙ put_all_more done number line (logical_lines (number + count) (runs_of (nows (drop count rest))))
@@ -50,7 +50,7 @@ pub reads_on : (whole : Result (List LogicalLine) ScriptFault) (done : List Logi
     whole ≡ put_all (done ++ line ∷ []) (logical_lines (start + count + 1) (runs_of (nows (drop (start + count) lines))))
 reads_on whole done lines start count line within cut is so_far =
     let number : start + 1 + count ≡ start + count + 1 = omega arith in
-    reads_behind whole done (drop start lines) (start + 1) count line within cut is so_far
+    reads_after whole done (drop start lines) (start + 1) count line within cut is so_far
     ∙ ap (λ n. put_all (done ++ line ∷ []) (logical_lines n (runs_of (nows (drop count (drop start lines)))))) number
     ∙ ap (λ rest. put_all (done ++ line ∷ []) (logical_lines (start + count + 1) (runs_of (nows rest)))) (drop-drop count start lines)
 
@@ -65,8 +65,8 @@ reads_open whole done rest number count within cut is so_far =
 -- no line is left
 pub reads_all : (whole : Result (List LogicalLine) ScriptFault) (done : List LogicalLine) (lines : List (Bor (List ℕ))) (start : ℕ) → length lines ≤ start →
     whole ≡ put_all done (logical_lines (start + 1) (runs_of (nows (drop start lines)))) → whole ≡ Ok done
-reads_all whole done lines start behind so_far =
-    so_far ∙ ap (λ rest. put_all done (logical_lines (start + 1) (runs_of (nows rest)))) (drop_all start lines behind) ∙ ap Ok (append-nil done)
+reads_all whole done lines start following so_far =
+    so_far ∙ ap (λ rest. put_all done (logical_lines (start + 1) (runs_of (nows rest)))) (drop_all start lines following) ∙ ap Ok (append-nil done)
 
 -- the lines of one run
 pub run_is_allowed : (lines : List (Bor (List ℕ))) (start count : ℕ) → All IsAllowed (nows lines) → All IsAllowed (nows (take count (drop start lines)))

@@ -3,6 +3,7 @@ pub mod Arriving
 pub mod Cuts
 pub mod Evaluations
 pub mod FaultLaws
+pub mod Firsts
 pub mod Following
 pub mod FormLoop
 pub mod FormReads
@@ -11,6 +12,7 @@ pub mod Gathered
 pub mod Joins
 pub mod LabelPlaces
 pub mod Levels
+pub mod LineBuffers
 pub mod LineWords
 pub mod Obeying
 pub mod Parts

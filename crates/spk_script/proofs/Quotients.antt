@@ -1,11 +1,11 @@
 -- Quotients of whole numbers with a sign, and when they are exact.
-use Rattle.std.proofs.Common.{◌≡◌, ℕ, zero, suc, ◌^◌, ◌<◌, ◌≤◌, true, false, ℤ, pos, negsuc, neg_ℤ, refl, sym, ap, ◌∙◌, arith, ◌*ℤ◌, lit<, to_z, of_z}
+use Rattle.std.proofs.Common.{◌≡◌, ℕ, zero, suc, ◌^◌, ◌<◌, ◌≤◌, true, false, ℤ, pos, negsuc, neg_ℤ, refl, sym, ap, ◌∙◌, arith, ◌*ℤ◌, lit<, to_z, of_z, Result}
 use Rattle.std.specs.Int.{w128}
 use Rattle.std.specs.Prelude.{FitsSigned, unsigned_abs, int_div, int_rem, ◌==◌}
 use Rattle.std.proofs.Math.Nat.{div-le_self}
 use Rattle.std.proofs.lemmas.Bool.Decides.{nat_tests}
 use Rattle.std.proofs.lemmas.Int.{to_z-of_z, fits_signed_from_abs, fits_signed_mul, rem_below}
-use Rattle.spk_script.specs.Faults.{Judged}
+use Rattle.spk_script.specs.declared.fault.LineFault.{LineFault}
 use Rattle.spk_script.specs.Values.{within, quotient}
 
 -- a number whose bits are 0
@@ -41,7 +41,7 @@ not_zero : (n : ℕ) → 0 < n → (n == 0) ≡ false
 not_zero n some = grind (arith, nat_tests)
 
 -- a quotient that the program computes, where it has no rest
-pub exact_quotient : (a d : ℤ) (result : Judged ℤ) → FitsSigned w128 a → FitsSigned w128 d → unsigned_abs a < 2 ^ 127 →
+pub exact_quotient : (a d : ℤ) (result : Result ℤ LineFault) → FitsSigned w128 a → FitsSigned w128 d → unsigned_abs a < 2 ^ 127 →
     (of_z w128 d ≡ 0 → ⊥) →
     of_z w128 (int_rem (to_z w128 (of_z w128 a)) (to_z w128 (of_z w128 d))) ≡ 0 →
     result ≡ within (to_z w128 (of_z w128 (int_div (to_z w128 (of_z w128 a)) (to_z w128 (of_z w128 d))))) →

@@ -3,7 +3,7 @@ use Rattle.std.proofs.Common.{◌≡◌, ℕ, ◌+◌, ◌<◌, ◌≤◌, true,
 use Rattle.std.specs.List.{concat}
 use Rattle.std.proofs.lemmas.List.{take_more, drop_more, get_or-map, length-map, map-append, take_all, drop_all}
 use Rattle.std.proofs.lemmas.List.Folds.{concat-append}
-use Rattle.spk_script.specs.Lines.{goes_on, given, with_first, runs_of, raw_of, text_of}
+use Rattle.spk_script.specs.Lines.{continues, given, with_first, runs_of, raw_of, text_of}
 
 -- what a list of references points to
 abbrev pub nows : List (Bor (List ℕ)) → List (List ℕ)
@@ -12,7 +12,7 @@ nows lines = map (λ (line : Bor (List ℕ)). line.now) lines
 pub now_at : (lines : List (Bor (List ℕ))) (i : ℕ) (d : Bor (List ℕ)) → i < length lines → get_or (nows lines) i d.now ≡ (get_or lines i d).now
 now_at lines i d within = get_or-map (λ (b : Bor (List ℕ)). b.now) lines i d d.now within
 
--- lines that go on, put in front of the first run
+-- lines that continue, put before the first run
 abbrev pub with_run : List (List ℕ) → List (List (List ℕ)) → List (List (List ℕ))
 with_run [] runs = runs
 with_run (line ∷ run) runs = with_first line (with_run run runs)
@@ -29,42 +29,42 @@ with_run_none : (line : List ℕ) (run : List (List ℕ)) → with_run (line ∷
 with_run_none line [] = refl
 with_run_none line (next ∷ run) = ap (with_first line) (with_run_none next run)
 
-runs_on : (line : List ℕ) (lines : List (List ℕ)) → goes_on line ≡ true → runs_of (line ∷ lines) ≡ with_first line (runs_of lines)
+runs_on : (line : List ℕ) (lines : List (List ℕ)) → continues line ≡ true → runs_of (line ∷ lines) ≡ with_first line (runs_of lines)
 runs_on line lines on = rw on refl
 
-runs_end : (line : List ℕ) (lines : List (List ℕ)) → goes_on line ≡ false → runs_of (line ∷ lines) ≡ (line ∷ []) ∷ runs_of lines
+runs_end : (line : List ℕ) (lines : List (List ℕ)) → continues line ≡ false → runs_of (line ∷ lines) ≡ (line ∷ []) ∷ runs_of lines
 runs_end line lines end = rw end refl
 
--- one line more that goes on
-run_goes_on : (xs : List (List ℕ)) (i : ℕ) (d : List ℕ) → i < length xs → goes_on (get_or xs i d) ≡ true →
+-- one line more that continues
+run_continues : (xs : List (List ℕ)) (i : ℕ) (d : List ℕ) → i < length xs → continues (get_or xs i d) ≡ true →
     with_run (take (i + 1) xs) (runs_of (drop (i + 1) xs)) ≡ with_run (take i xs) (runs_of (drop i xs))
-run_goes_on xs i d within on =
+run_continues xs i d within on =
     ap (λ run. with_run run (runs_of (drop (i + 1) xs))) (take_more xs i d within) ∙ with_run_more (take i xs) (get_or xs i d) (runs_of (drop (i + 1) xs))
     ∙ ap (with_run (take i xs)) (sym (ap runs_of (drop_more xs i d within) ∙ runs_on (get_or xs i d) (drop (i + 1) xs) on))
 
 -- the first line that doesn't go on ends the run
-ends_at : (xs : List (List ℕ)) (i : ℕ) (d : List ℕ) → i < length xs → goes_on (get_or xs i d) ≡ false →
+ends_at : (xs : List (List ℕ)) (i : ℕ) (d : List ℕ) → i < length xs → continues (get_or xs i d) ≡ false →
     with_run (take i xs) (runs_of (drop i xs)) ≡ take (i + 1) xs ∷ runs_of (drop (i + 1) xs)
 ends_at xs i d within end =
     ap (with_run (take i xs)) (ap runs_of (drop_more xs i d within) ∙ runs_end (get_or xs i d) (drop (i + 1) xs) end)
     ∙ with_run_ends (take i xs) (get_or xs i d) (runs_of (drop (i + 1) xs)) ∙ ap (λ run. run ∷ runs_of (drop (i + 1) xs)) (sym (take_more xs i d within))
 
 -- the same over references
-pub run_goes : (lines : List (Bor (List ℕ))) (i : ℕ) (d : Bor (List ℕ)) → i < length lines → goes_on (get_or lines i d).now ≡ true →
+pub run_goes : (lines : List (Bor (List ℕ))) (i : ℕ) (d : Bor (List ℕ)) → i < length lines → continues (get_or lines i d).now ≡ true →
     runs_of (nows lines) ≡ with_run (take i (nows lines)) (runs_of (drop i (nows lines))) →
     runs_of (nows lines) ≡ with_run (take (i + 1) (nows lines)) (runs_of (drop (i + 1) (nows lines)))
 run_goes lines i d within on so_far =
     let many : i < length (nows lines) = rw length-map within in
-    so_far ∙ sym (run_goes_on (nows lines) i d.now many (ap goes_on (now_at lines i d within) ∙ on))
+    so_far ∙ sym (run_continues (nows lines) i d.now many (ap continues (now_at lines i d within) ∙ on))
 
-pub run_ends : (lines : List (Bor (List ℕ))) (i : ℕ) (d : Bor (List ℕ)) → i < length lines → goes_on (get_or lines i d).now ≡ false →
+pub run_ends : (lines : List (Bor (List ℕ))) (i : ℕ) (d : Bor (List ℕ)) → i < length lines → continues (get_or lines i d).now ≡ false →
     runs_of (nows lines) ≡ with_run (take i (nows lines)) (runs_of (drop i (nows lines))) →
     runs_of (nows lines) ≡ take (i + 1) (nows lines) ∷ runs_of (drop (i + 1) (nows lines))
 run_ends lines i d within end so_far =
     let many : i < length (nows lines) = rw length-map within in
-    so_far ∙ ends_at (nows lines) i d.now many (ap goes_on (now_at lines i d within) ∙ end)
+    so_far ∙ ends_at (nows lines) i d.now many (ap continues (now_at lines i d within) ∙ end)
 
--- behind the last line the run has all of them
+-- after the last line the run has all of them
 all_of : (xs : List (List ℕ)) → 0 < length xs → with_run xs [] ≡ xs ∷ []
 all_of [] some = absurd (omega (arith, some))
 all_of (line ∷ run) some = with_run_none line run
@@ -72,8 +72,8 @@ all_of (line ∷ run) some = with_run_none line run
 pub run_is_all : (lines : List (Bor (List ℕ))) (i : ℕ) → 0 < length lines → i ≤ length lines → length lines ≤ i →
     runs_of (nows lines) ≡ with_run (take i (nows lines)) (runs_of (drop i (nows lines))) →
     runs_of (nows lines) ≡ take (length lines) (nows lines) ∷ runs_of (drop (length lines) (nows lines))
-run_is_all lines i some within behind so_far =
-    let same : i ≡ length lines = omega (arith, within, behind) in
+run_is_all lines i some within following so_far =
+    let same : i ≡ length lines = omega (arith, within, following) in
     let many : 0 < length (nows lines) = rw length-map some in
     let all : length (nows lines) ≤ length lines = rw length-map (omega arith) in
     let whole : take (length lines) (nows lines) ≡ nows lines = take_all (length lines) (nows lines) all in

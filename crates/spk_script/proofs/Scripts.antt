@@ -12,8 +12,8 @@ use Rattle.std.proofs.lemmas.Cmp.{ranked}
 use Rattle.std.proofs.lemmas.Str.Ascii.{IsAscii-nil}
 use Rattle.spk_script.specs.declared.words.Word.{Word}
 use Rattle.spk_script.specs.declared.script.ScriptFault.{ScriptFault}
-use Rattle.spk_script.specs.Words.{is_blank, is_comment, is_quote, Behind, Blank, Bare, Quoted, put_word, put_byte, end_of, words_behind, words_of}
-use Rattle.spk_script.specs.Lines.{LogicalLine, goes_on, with_first, runs_of, raw_of, text_of, with_words, logical_line, put_line, logical_lines, line_numbered}
+use Rattle.spk_script.specs.Words.{is_blank, is_comment, is_quote, Context, Blank, Bare, Quoted, put_word, put_byte, end_of, words_after, words_of}
+use Rattle.spk_script.specs.Lines.{LogicalLine, continues, with_first, runs_of, raw_of, text_of, with_words, logical_line, put_line, logical_lines, line_numbered}
 use Rattle.spk_script.specs.Scripts.{IsScript}
 use Rattle.spk_script.proofs.Allowed.{IsAllowedByte, IsAllowed, bytes_of, text_is_allowed}
 use Rattle.spk_script.proofs.Cuts.{by_bool, allowed_below}
@@ -42,8 +42,8 @@ put_byte_ascii b (Some (word ∷ words)) low rest =
     All-cons IsAsciiWord (record word { text = b ∷ word.text }) words (ascii_cons b word.text low first)
     (All-tail IsAsciiWord word words rest)
 
-words_ascii : (behind : Behind) (text : List ℕ) → All IsAllowedByte text → AreAscii (words_behind behind text)
-unfolding words_behind
+words_ascii : (following : Context) (text : List ℕ) → All IsAllowedByte text → AreAscii (words_after following text)
+unfolding words_after
 words_ascii Blank [] allowed = All-nil IsAsciiWord
 words_ascii Blank (b ∷ text) allowed =
     let low : b < 128 = allowed_below b (All-head IsAllowedByte b text allowed) in
@@ -51,22 +51,22 @@ words_ascii Blank (b ∷ text) allowed =
     by_bool (is_comment b) (λ comment. rw comment (All-nil IsAsciiWord))
     (λ plain. by_bool (is_blank b) (λ blank. rw (plain, blank) (words_ascii Blank text rest))
     (λ seen. by_bool (is_quote b) (λ quote. rw (plain, seen, quote) (words_ascii Quoted text rest))
-    (λ bare. rw (plain, seen, bare) (put_byte_ascii b (words_behind Bare text) low (words_ascii Bare text rest)))))
+    (λ bare. rw (plain, seen, bare) (put_byte_ascii b (words_after Bare text) low (words_ascii Bare text rest)))))
 words_ascii Bare [] allowed = All-cons IsAsciiWord (end_of false) [] IsAscii-nil (All-nil IsAsciiWord)
 words_ascii Bare (b ∷ text) allowed =
     let low : b < 128 = allowed_below b (All-head IsAllowedByte b text allowed) in
     let rest : All IsAllowedByte text = All-tail IsAllowedByte b text allowed in
     by_bool (is_comment b) (λ comment. rw comment (All-cons IsAsciiWord (end_of false) [] IsAscii-nil (All-nil IsAsciiWord)))
     (λ plain. by_bool (is_blank b)
-    (λ blank. rw (plain, blank) (put_word_ascii (end_of false) (words_behind Blank text) IsAscii-nil (words_ascii Blank text rest)))
-    (λ seen. rw (plain, seen) (put_byte_ascii b (words_behind Bare text) low (words_ascii Bare text rest))))
+    (λ blank. rw (plain, blank) (put_word_ascii (end_of false) (words_after Blank text) IsAscii-nil (words_ascii Blank text rest)))
+    (λ seen. rw (plain, seen) (put_byte_ascii b (words_after Bare text) low (words_ascii Bare text rest))))
 words_ascii Quoted [] allowed = tt
 words_ascii Quoted (b ∷ text) allowed =
     let low : b < 128 = allowed_below b (All-head IsAllowedByte b text allowed) in
     let rest : All IsAllowedByte text = All-tail IsAllowedByte b text allowed in
     by_bool (is_quote b)
-    (λ quote. rw quote (put_word_ascii (end_of true) (words_behind Blank text) IsAscii-nil (words_ascii Blank text rest)))
-    (λ plain. rw plain (put_byte_ascii b (words_behind Quoted text) low (words_ascii Quoted text rest)))
+    (λ quote. rw quote (put_word_ascii (end_of true) (words_after Blank text) IsAscii-nil (words_ascii Blank text rest)))
+    (λ plain. rw plain (put_byte_ascii b (words_after Quoted text) low (words_ascii Quoted text rest)))
 
 -- a run has some physical lines, of allowed bytes
 abbrev IsRun : List (List ℕ) → Type 0
@@ -76,15 +76,15 @@ with_first_holds : (line : List ℕ) (runs : List (List (List ℕ))) → IsAllow
 with_first_holds line [] allowed holds =
     All-cons IsRun (line ∷ []) [] (omega arith, All-cons IsAllowed line [] allowed (All-nil IsAllowed)) holds
 with_first_holds line (run ∷ runs) allowed holds =
-    let behind : IsRun run = All-head IsRun run runs holds in
-    All-cons IsRun (line ∷ run) runs (omega arith, All-cons IsAllowed line run allowed behind.1) (All-tail IsRun run runs holds)
+    let following : IsRun run = All-head IsRun run runs holds in
+    All-cons IsRun (line ∷ run) runs (omega arith, All-cons IsAllowed line run allowed following.1) (All-tail IsRun run runs holds)
 
 runs_hold : (lines : List (List ℕ)) → All IsAllowed lines → All IsRun (runs_of lines)
 runs_hold [] allowed = All-nil IsRun
 runs_hold (line ∷ lines) allowed =
     let first : IsAllowed line = All-head IsAllowed line lines allowed in
     let rest : All IsRun (runs_of lines) = runs_hold lines (All-tail IsAllowed line lines allowed) in
-    elim (goes_on line) as (λ c. All IsRun (cond c (with_first line (runs_of lines)) ((line ∷ []) ∷ runs_of lines))) [
+    elim (continues line) as (λ c. All IsRun (cond c (with_first line (runs_of lines)) ((line ∷ []) ∷ runs_of lines))) [
       | true ↦ with_first_holds line (runs_of lines) first rest
       | false ↦ All-cons IsRun (line ∷ []) (runs_of lines) (omega arith, All-cons IsAllowed line [] first (All-nil IsAllowed)) rest
     ]
@@ -158,7 +158,7 @@ module _ (lines : List LogicalLine) (rising : AllPairs (λ line later. line.numb
       elim (cases_lt i j) [
         | inl less ↦
             let rises : (get_or lines i d).number < (get_or lines j d).number = rising i j d less within in grind (arith, nat_tests)
-        | inr behind ↦ let same : i ≡ j = omega (arith, upto, behind) in rw same (omega arith)
+        | inr following ↦ let same : i ≡ j = omega (arith, upto, following) in rw same (omega arith)
       ]
 
   -- where a binary search found it

@@ -13,7 +13,7 @@ use Rattle.spk_script.specs.declared.formula.part.Token.TheVariants.{Name, Open,
 use Rattle.spk_script.specs.declared.formula.part.Part.{Part}
 use Rattle.spk_script.specs.Words.{is_blank}
 use Rattle.spk_num.specs.Names.{is_name_byte}
-use Rattle.spk_script.specs.Formulas.{is_number_byte, number_of, name_of, variable_of, token_of, more_of, parts_behind, parts_of}
+use Rattle.spk_script.specs.Formulas.{is_number_byte, number_of, name_of, variable_of, token_of, more_of, parts_after, parts_of}
 use Rattle.spk_script.specs.Evaluation.{IsSmall}
 
 signed_abs : (negative : Bool) (m : ℕ) → unsigned_abs (signed negative m) ≡ m
@@ -87,19 +87,19 @@ token_small place b text =
 abbrev IsSmallPart : Part → Type 0
 IsSmallPart part = IsSmall part.token
 
-parts_behind_small : (more place : ℕ) (text : List ℕ) → All IsSmallPart (parts_behind more place text)
-unfolding parts_behind
-parts_behind_small more place [] = All-nil IsSmallPart
-parts_behind_small (suc more) place (b ∷ text) = parts_behind_small more (place + 1) text
-parts_behind_small zero place (b ∷ text) =
+parts_after_small : (more place : ℕ) (text : List ℕ) → All IsSmallPart (parts_after more place text)
+unfolding parts_after
+parts_after_small more place [] = All-nil IsSmallPart
+parts_after_small (suc more) place (b ∷ text) = parts_after_small more (place + 1) text
+parts_after_small zero place (b ∷ text) =
     elim (is_blank b) as (λ v. All IsSmallPart
-    (if v then parts_behind 0 (place + 1) text
-    else record { place = place; token = token_of place b text } ∷ parts_behind (more_of b text) (place + 1) text)) [
-      | true ↦ parts_behind_small 0 (place + 1) text
+    (if v then parts_after 0 (place + 1) text
+    else record { place = place; token = token_of place b text } ∷ parts_after (more_of b text) (place + 1) text)) [
+      | true ↦ parts_after_small 0 (place + 1) text
       | false ↦ All-cons IsSmallPart _ _ (token_small place b text)
-          (parts_behind_small (more_of b text) (place + 1) text)
+          (parts_after_small (more_of b text) (place + 1) text)
     ]
 
 -- the numbers in a formula
 pub parts_small : (text : List ℕ) → All (λ part. IsSmall part.token) (parts_of text)
-parts_small text = parts_behind_small 0 0 text
+parts_small text = parts_after_small 0 0 text

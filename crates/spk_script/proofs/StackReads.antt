@@ -9,9 +9,10 @@ use Rattle.spk_script.specs.declared.formula.part.Token.TheVariants.{Number, Nam
 use Rattle.spk_script.specs.declared.formula.part.Part.{Part}
 use Rattle.spk_script.specs.declared.formula.stack.Frame.{Frame}
 use Rattle.spk_script.specs.declared.formula.stack.Frame.TheVariants.{Minus as Negation, Parenthesis, Pending}
-use Rattle.spk_script.specs.Faults.{Judged, ◌>>=◌, Answers, is_memory}
+use Rattle.spk_num.specs.Results.{◌>>=◌, IsPlainOrMemory}
+use Rattle.spk_script.specs.Faults.{is_memory}
 use Rattle.spk_script.specs.Formulas.{Formula, Amount, Variable as Named, Negative, Enclosed, Operation, Goal, Expression, Term, Factor, MoreTerms, MoreFactors, Read, ◌then◌, is_sum, is_product, operator_by, operator_at, closed, closed_by, factor_by, factor_of, more_of_kind, read, begins_blank, ends_blank, whole, parts_of, read_of, formula_of}
-use Rattle.spk_script.specs.Values.{Naming, Reckoned, value_of, value_of_read}
+use Rattle.spk_script.specs.Values.{Naming, Evaluated, value_of, value_of_read}
 use Rattle.spk_script.specs.Evaluation.{IsSmall, is_product_sign, started, run}
 use Rattle.spk_script.specs.Forms.{parts_by, parts_formed}
 use Rattle.spk_script.proofs.Following.{then_same, then_ok}
@@ -42,10 +43,10 @@ expression_open before_product (Negation ∷ frames) begins = absurd begins
 expression_open before_product (Parenthesis ∷ frames) begins = parenthesis_open before_product frames
 expression_open before_product (Pending operator left ∷ frames) begins = absurd begins
 
--- the operator that stands at the front
-record IsFront (is : Operator → Bool) (parts : List Part) (operator : Operator) (rest : List Part) : Type 0 where
+-- the operator that stands at the start
+record IsStart (is : Operator → Bool) (parts : List Part) (operator : Operator) (rest : List Part) : Type 0 where
   part : Part
-  front : parts ≡ part ∷ rest
+  prefix : parts ≡ part ∷ rest
   sign : part.token ≡ Sign operator
   kind : is operator ≡ true
 
@@ -58,24 +59,24 @@ kind_of is operator parts true found kind at =
     (ap (λ f. f.0) same, ap (λ f. f.1) same, kind)
 kind_of is operator parts false found kind at = absurd (cc)
 
-front_by : (is : Operator → Bool) (part : Part) (parts : List Part) (token : Token) (found : Operator × List Part) → part.token ≡ token →
+first_by : (is : Operator → Bool) (part : Part) (parts : List Part) (token : Token) (found : Operator × List Part) → part.token ≡ token →
     operator_by is token parts ≡ Some found →
-    IsFront is (part ∷ parts) found.0 found.1
-front_by is part parts (Sign operator) found sign at =
+    IsStart is (part ∷ parts) found.0 found.1
+first_by is part parts (Sign operator) found sign at =
     let same = kind_of is operator parts (is operator) found refl at in
-    record { part = part; front = ap (λ ps. part ∷ ps) same.1; sign = sign ∙ ap Sign same.0; kind = ap is (sym same.0) ∙ same.2 }
-front_by is part parts (Number z) found sign at = absurd (cc)
-front_by is part parts (Name name) found sign at = absurd (cc)
-front_by is part parts Open found sign at = absurd (cc)
-front_by is part parts Close found sign at = absurd (cc)
-front_by is part parts (Broken place) found sign at = absurd (cc)
+    record { part = part; prefix = ap (λ ps. part ∷ ps) same.1; sign = sign ∙ ap Sign same.0; kind = ap is (sym same.0) ∙ same.2 }
+first_by is part parts (Number z) found sign at = absurd (cc)
+first_by is part parts (Name name) found sign at = absurd (cc)
+first_by is part parts Open found sign at = absurd (cc)
+first_by is part parts Close found sign at = absurd (cc)
+first_by is part parts (Broken place) found sign at = absurd (cc)
 
-operator_front : (is : Operator → Bool) (parts : List Part) (found : Operator × List Part) → operator_at is parts ≡ Some found →
-    IsFront is parts found.0 found.1
-operator_front is [] found at = absurd (cc)
-operator_front is (part ∷ parts) found at = front_by is part parts part.token found refl at
+operator_at_start : (is : Operator → Bool) (parts : List Part) (found : Operator × List Part) → operator_at is parts ≡ Some found →
+    IsStart is parts found.0 found.1
+operator_at_start is [] found at = absurd (cc)
+operator_at_start is (part ∷ parts) found at = first_by is part parts part.token found refl at
 
--- behind a term no sign of a product stands
+-- after a term no sign of a product stands
 no_kind : (b : Bool) (found : Operator × List Part) → (if b then Some found else None) ≡ None → b ≡ false
 no_kind true found at = absurd (cc)
 no_kind false found at = refl
@@ -92,7 +93,7 @@ no_product : (parts : List Part) → operator_at is_product parts ≡ None → p
 no_product [] at = refl
 no_product (part ∷ parts) at = no_product_by part.token parts at
 
--- what was read, and what stands behind it
+-- what was read, and what stands after it
 abbrev found : Formula → List Part → Read
 found formula rest = Ok (formula, rest)
 
@@ -107,13 +108,13 @@ moved P formula other parts rest is here =
 factors_end_by : (more : Goal → List Part → Read) →
     ((left : Formula) (parts : List Part) (formula : Formula) (rest : List Part) → more (MoreFactors left) parts ≡ found formula rest →
     product_next rest ≡ false) →
-    (left : Formula) (parts : List Part) (formula : Formula) (rest : List Part) (front : Option (Operator × List Part)) →
-    operator_at is_product parts ≡ front →
-    more_of_kind more Factor MoreFactors left parts front ≡ found formula rest → product_next rest ≡ false
-factors_end_by more ends left parts formula rest None front is =
-    moved (λ _ after. product_next after ≡ false) left formula parts rest is (no_product parts front)
-factors_end_by more ends left parts formula rest (Some at) front is =
-    let before = read_before (more Factor at.1) (λ right behind. more (MoreFactors (Operation at.0 left right)) behind) formula rest is in
+    (left : Formula) (parts : List Part) (formula : Formula) (rest : List Part) (prefix : Option (Operator × List Part)) →
+    operator_at is_product parts ≡ prefix →
+    more_of_kind more Factor MoreFactors left parts prefix ≡ found formula rest → product_next rest ≡ false
+factors_end_by more ends left parts formula rest None prefix is =
+    moved (λ _ after. product_next after ≡ false) left formula parts rest is (no_product parts prefix)
+factors_end_by more ends left parts formula rest (Some at) prefix is =
+    let before = read_before (more Factor at.1) (λ right following. more (MoreFactors (Operation at.0 left right)) following) formula rest is in
     ends (Operation at.0 left before.inner) before.left formula rest before.read_next
 
 factors_end : (steps end : ℕ) (left : Formula) (parts : List Part) (formula : Formula) (rest : List Part) →
@@ -128,7 +129,7 @@ term_ends : (steps end : ℕ) (parts : List Part) (formula : Formula) (rest : Li
 unfolding read
 term_ends zero end parts formula rest is = absurd (cc)
 term_ends (suc steps) end parts formula rest is =
-    let before = read_before (read steps end Factor parts) (λ left behind. read steps end (MoreFactors left) behind) formula rest is in
+    let before = read_before (read steps end Factor parts) (λ left following. read steps end (MoreFactors left) following) formula rest is in
     factors_end steps end before.inner before.left formula rest before.read_next
 
 sum_is_no_product : (operator : Operator) → is_sum operator ≡ true → is_product operator ≡ false
@@ -146,16 +147,16 @@ product_finishes : (product next : Bool) → product ≡ true → (product || no
 product_finishes product next is = rw is refl
 
 -- a parenthesis that is closed
-closing_by : (place : ℕ) (inner : Formula) (last : Part) (behind : List Part) (token : Token) (formula : Formula) (rest : List Part) →
+closing_by : (place : ℕ) (inner : Formula) (last : Part) (following : List Part) (token : Token) (formula : Formula) (rest : List Part) →
     last.token ≡ token →
-    closed_by place inner last behind token ≡ found formula rest →
-    (last.token ≡ Close) × (found (Enclosed place inner) behind ≡ found formula rest)
-closing_by place inner last behind Close formula rest ends is = (ends, is)
-closing_by place inner last behind (Number z) formula rest ends is = absurd (cc)
-closing_by place inner last behind (Name name) formula rest ends is = absurd (cc)
-closing_by place inner last behind Open formula rest ends is = absurd (cc)
-closing_by place inner last behind (Sign operator) formula rest ends is = absurd (cc)
-closing_by place inner last behind (Broken at) formula rest ends is = absurd (cc)
+    closed_by place inner last following token ≡ found formula rest →
+    (last.token ≡ Close) × (found (Enclosed place inner) following ≡ found formula rest)
+closing_by place inner last following Close formula rest ends is = (ends, is)
+closing_by place inner last following (Number z) formula rest ends is = absurd (cc)
+closing_by place inner last following (Name name) formula rest ends is = absurd (cc)
+closing_by place inner last following Open formula rest ends is = absurd (cc)
+closing_by place inner last following (Sign operator) formula rest ends is = absurd (cc)
+closing_by place inner last following (Broken at) formula rest ends is = absurd (cc)
 
 if_blank : (text : List ℕ) (blank : Bool) (formula other : Formula) → (if blank then Err (length text) else Ok formula) ≡ Ok other →
     formula ≡ other
@@ -170,17 +171,17 @@ whole_by text formula (part ∷ rest) other is = absurd (cc)
 module _ (naming : Naming) (depth : ℕ) where
   -- the parts that are read come to the value of what was read of them
   abbrev Agrees : Goal → List Part → Formula → List Part → Type 0
-  Agrees Expression parts formula rest = (frames : List Frame) (met : ℕ) → BeginsExpression frames →
-      wanted naming depth frames met parts ≡ value naming depth frames met formula >>= after naming depth frames rest
-  Agrees Term parts formula rest = (frames : List Frame) (met : ℕ) → IsOpen true frames →
-      wanted naming depth frames met parts ≡ value naming depth frames met formula >>= after naming depth frames rest
-  Agrees Factor parts formula rest = (frames : List Frame) (met : ℕ) →
-      wanted naming depth frames met parts ≡ value naming depth frames met formula >>= after naming depth frames rest
-  Agrees (MoreTerms left) parts formula rest = (frames : List Frame) (met : ℕ) → BeginsExpression frames →
-      value naming depth frames met left >>= after naming depth frames parts ≡ value naming depth frames met formula >>= after naming
+  Agrees Expression parts formula rest = (frames : List Frame) (operand_count : ℕ) → BeginsExpression frames →
+      wanted naming depth frames operand_count parts ≡ value naming depth frames operand_count formula >>= after naming depth frames rest
+  Agrees Term parts formula rest = (frames : List Frame) (operand_count : ℕ) → IsOpen true frames →
+      wanted naming depth frames operand_count parts ≡ value naming depth frames operand_count formula >>= after naming depth frames rest
+  Agrees Factor parts formula rest = (frames : List Frame) (operand_count : ℕ) →
+      wanted naming depth frames operand_count parts ≡ value naming depth frames operand_count formula >>= after naming depth frames rest
+  Agrees (MoreTerms left) parts formula rest = (frames : List Frame) (operand_count : ℕ) → BeginsExpression frames →
+      value naming depth frames operand_count left >>= after naming depth frames parts ≡ value naming depth frames operand_count formula >>= after naming
       depth frames rest
-  Agrees (MoreFactors left) parts formula rest = (frames : List Frame) (met : ℕ) → IsOpen true frames →
-      value naming depth frames met left >>= after naming depth frames parts ≡ value naming depth frames met formula >>= after naming
+  Agrees (MoreFactors left) parts formula rest = (frames : List Frame) (operand_count : ℕ) → IsOpen true frames →
+      value naming depth frames operand_count left >>= after naming depth frames parts ≡ value naming depth frames operand_count formula >>= after naming
       depth frames rest
 
   abbrev AllAgree : (Goal → List Part → Read) → Type 0
@@ -188,104 +189,104 @@ module _ (naming : Naming) (depth : ℕ) where
       Agrees goal parts formula rest
 
   expression_agrees : (more : Goal → List Part → Read) → AllAgree more → (parts : List Part) (formula : Formula) (rest : List Part) →
-      more Term parts then (λ left behind. more (MoreTerms left) behind) ≡ found formula rest → Agrees Expression parts formula rest
-  expression_agrees more agree parts formula rest is frames met begins =
-      let before = read_before (more Term parts) (λ left behind. more (MoreTerms left) behind) formula rest is in
-      agree Term parts before.inner before.left before.read_first frames met (expression_open true frames begins)
-      ∙ agree (MoreTerms before.inner) before.left formula rest before.read_next frames met begins
+      more Term parts then (λ left following. more (MoreTerms left) following) ≡ found formula rest → Agrees Expression parts formula rest
+  expression_agrees more agree parts formula rest is frames operand_count begins =
+      let before = read_before (more Term parts) (λ left following. more (MoreTerms left) following) formula rest is in
+      agree Term parts before.inner before.left before.read_first frames operand_count (expression_open true frames begins)
+      ∙ agree (MoreTerms before.inner) before.left formula rest before.read_next frames operand_count begins
 
   term_agrees : (more : Goal → List Part → Read) → AllAgree more → (parts : List Part) (formula : Formula) (rest : List Part) →
-      more Factor parts then (λ left behind. more (MoreFactors left) behind) ≡ found formula rest → Agrees Term parts formula rest
-  term_agrees more agree parts formula rest is frames met level =
-      let before = read_before (more Factor parts) (λ left behind. more (MoreFactors left) behind) formula rest is in
-      agree Factor parts before.inner before.left before.read_first frames met
-      ∙ agree (MoreFactors before.inner) before.left formula rest before.read_next frames met level
+      more Factor parts then (λ left following. more (MoreFactors left) following) ≡ found formula rest → Agrees Term parts formula rest
+  term_agrees more agree parts formula rest is frames operand_count level =
+      let before = read_before (more Factor parts) (λ left following. more (MoreFactors left) following) formula rest is in
+      agree Factor parts before.inner before.left before.read_first frames operand_count
+      ∙ agree (MoreFactors before.inner) before.left formula rest before.read_next frames operand_count level
 
   -- more terms or factors
   terms_agree : (more : Goal → List Part → Read) → AllAgree more →
       ((parts : List Part) (formula : Formula) (rest : List Part) → more Term parts ≡ found formula rest → product_next rest ≡ false) →
-      (left : Formula) (parts : List Part) (formula : Formula) (rest : List Part) (front : Option (Operator × List Part)) →
-      operator_at is_sum parts ≡ front →
-      more_of_kind more Term MoreTerms left parts front ≡ found formula rest → Agrees (MoreTerms left) parts formula rest
-  terms_agree more agree ends left parts formula rest None front is frames met begins =
-      moved (λ f behind. value naming depth frames met left >>= after naming depth frames parts ≡ value naming depth frames met
-      f >>= after naming depth frames behind) left formula parts rest is refl
-  terms_agree more agree ends left parts formula rest (Some at) front is frames met begins =
-      let before = read_before (more Term at.1) (λ right behind. more (MoreTerms (Operation at.0 left right)) behind) formula rest is in
-      let sign = operator_front is_sum parts at front in
+      (left : Formula) (parts : List Part) (formula : Formula) (rest : List Part) (prefix : Option (Operator × List Part)) →
+      operator_at is_sum parts ≡ prefix →
+      more_of_kind more Term MoreTerms left parts prefix ≡ found formula rest → Agrees (MoreTerms left) parts formula rest
+  terms_agree more agree ends left parts formula rest None prefix is frames operand_count begins =
+      moved (λ f following. value naming depth frames operand_count left >>= after naming depth frames parts ≡ value naming depth frames operand_count
+      f >>= after naming depth frames following) left formula parts rest is refl
+  terms_agree more agree ends left parts formula rest (Some at) prefix is frames operand_count begins =
+      let before = read_before (more Term at.1) (λ right following. more (MoreTerms (Operation at.0 left right)) following) formula rest is in
+      let sign = operator_at_start is_sum parts at prefix in
       let last : product_next before.left ≡ false = ends at.1 before.inner before.left before.read_first in
-      ap (λ ps. value naming depth frames met left >>= after naming depth frames ps) sign.front
-      ∙ takes_operation naming depth frames met at.0 left before.inner sign.part at.1 before.left sign.sign
+      ap (λ ps. value naming depth frames operand_count left >>= after naming depth frames ps) sign.prefix
+      ∙ takes_operation naming depth frames operand_count at.0 left before.inner sign.part at.1 before.left sign.sign
       (expression_open (is_product at.0) frames begins)
       (λ z. no_product_follows (is_product at.0) (product_next before.left) last)
-      (λ z more_met. agree Term at.1 before.inner before.left before.read_first (Pending at.0 z ∷ frames) more_met
+      (λ z more_operands. agree Term at.1 before.inner before.left before.read_first (Pending at.0 z ∷ frames) more_operands
       (sum_open at.0 z frames (sum_is_no_product at.0 sign.kind)))
-      ∙ agree (MoreTerms (Operation at.0 left before.inner)) before.left formula rest before.read_next frames met begins
+      ∙ agree (MoreTerms (Operation at.0 left before.inner)) before.left formula rest before.read_next frames operand_count begins
 
   factors_agree : (more : Goal → List Part → Read) → AllAgree more →
-      (left : Formula) (parts : List Part) (formula : Formula) (rest : List Part) (front : Option (Operator × List Part)) →
-      operator_at is_product parts ≡ front →
-      more_of_kind more Factor MoreFactors left parts front ≡ found formula rest → Agrees (MoreFactors left) parts formula rest
-  factors_agree more agree left parts formula rest None front is frames met level =
-      moved (λ f behind. value naming depth frames met left >>= after naming depth frames parts ≡ value naming depth frames met
-      f >>= after naming depth frames behind) left formula parts rest is refl
-  factors_agree more agree left parts formula rest (Some at) front is frames met level =
-      let before = read_before (more Factor at.1) (λ right behind. more (MoreFactors (Operation at.0 left right)) behind) formula rest is in
-      let sign = operator_front is_product parts at front in
-      ap (λ ps. value naming depth frames met left >>= after naming depth frames ps) sign.front
-      ∙ takes_operation naming depth frames met at.0 left before.inner sign.part at.1 before.left sign.sign
+      (left : Formula) (parts : List Part) (formula : Formula) (rest : List Part) (prefix : Option (Operator × List Part)) →
+      operator_at is_product parts ≡ prefix →
+      more_of_kind more Factor MoreFactors left parts prefix ≡ found formula rest → Agrees (MoreFactors left) parts formula rest
+  factors_agree more agree left parts formula rest None prefix is frames operand_count level =
+      moved (λ f following. value naming depth frames operand_count left >>= after naming depth frames parts ≡ value naming depth frames operand_count
+      f >>= after naming depth frames following) left formula parts rest is refl
+  factors_agree more agree left parts formula rest (Some at) prefix is frames operand_count level =
+      let before = read_before (more Factor at.1) (λ right following. more (MoreFactors (Operation at.0 left right)) following) formula rest is in
+      let sign = operator_at_start is_product parts at prefix in
+      ap (λ ps. value naming depth frames operand_count left >>= after naming depth frames ps) sign.prefix
+      ∙ takes_operation naming depth frames operand_count at.0 left before.inner sign.part at.1 before.left sign.sign
       (subst (λ b. IsOpen b frames) (sym sign.kind) level)
       (λ z. product_finishes (is_product at.0) (product_next before.left) sign.kind)
-      (λ z more_met. agree Factor at.1 before.inner before.left before.read_first (Pending at.0 z ∷ frames) more_met)
-      ∙ agree (MoreFactors (Operation at.0 left before.inner)) before.left formula rest before.read_next frames met level
+      (λ z more_operands. agree Factor at.1 before.inner before.left before.read_first (Pending at.0 z ∷ frames) more_operands)
+      ∙ agree (MoreFactors (Operation at.0 left before.inner)) before.left formula rest before.read_next frames operand_count level
 
   -- a factor by its first part
-  closed_agrees : (frames : List Frame) (met : ℕ) (inner : Formula) (behind : List Part) (part : Part) (parts : List Part)
+  closed_agrees : (frames : List Frame) (operand_count : ℕ) (inner : Formula) (following : List Part) (part : Part) (parts : List Part)
       (formula : Formula) (rest : List Part) → part.token ≡ Open →
-      wanted naming depth (Parenthesis ∷ frames) met parts ≡ value naming depth (Parenthesis ∷ frames) met inner >>= after naming depth
-      (Parenthesis ∷ frames) behind →
-      (end : ℕ) → closed end part.place inner behind ≡ found formula rest →
-      wanted naming depth frames met (part ∷ parts) ≡ value naming depth frames met formula >>= after naming depth frames rest
-  closed_agrees frames met inner [] part parts formula rest opens inside end is = absurd (cc)
-  closed_agrees frames met inner (last ∷ behind) part parts formula rest opens inside end is =
-      let closing = closing_by part.place inner last behind last.token formula rest refl is in
-      moved (λ f after_it. wanted naming depth frames met (part ∷ parts) ≡ value naming depth frames met f >>= after naming depth frames
-      after_it) (Enclosed part.place inner) formula behind rest closing.1
-      (takes_parenthesis naming depth frames met part parts inner last behind opens closing.0 inside)
+      wanted naming depth (Parenthesis ∷ frames) operand_count parts ≡ value naming depth (Parenthesis ∷ frames) operand_count inner >>= after naming depth
+      (Parenthesis ∷ frames) following →
+      (end : ℕ) → closed end part.place inner following ≡ found formula rest →
+      wanted naming depth frames operand_count (part ∷ parts) ≡ value naming depth frames operand_count formula >>= after naming depth frames rest
+  closed_agrees frames operand_count inner [] part parts formula rest opens inside end is = absurd (cc)
+  closed_agrees frames operand_count inner (last ∷ following) part parts formula rest opens inside end is =
+      let closing = closing_by part.place inner last following last.token formula rest refl is in
+      moved (λ f after_it. wanted naming depth frames operand_count (part ∷ parts) ≡ value naming depth frames operand_count f >>= after naming depth frames
+      after_it) (Enclosed part.place inner) formula following rest closing.1
+      (takes_parenthesis naming depth frames operand_count part parts inner last following opens closing.0 inside)
 
   factor_agrees : (more : Goal → List Part → Read) → AllAgree more →
       (end : ℕ) (part : Part) (parts : List Part) (formula : Formula) (rest : List Part) (token : Token) → part.token ≡ token →
       factor_by more end part.place parts token ≡ found formula rest → Agrees Factor (part ∷ parts) formula rest
-  factor_agrees more agree end part parts formula rest (Number z) begins is frames met =
-      moved (λ f behind. wanted naming depth frames met (part ∷ parts) ≡ value naming depth frames met f >>= after naming depth frames
-      behind) (Amount part.place z.millionths) formula parts rest is
-      (takes_number naming depth frames met part parts z begins)
-  factor_agrees more agree end part parts formula rest (Name name) begins is frames met =
-      moved (λ f behind. wanted naming depth frames met (part ∷ parts) ≡ value naming depth frames met f >>= after naming depth frames
-      behind) (Named part.place name) formula parts rest is
-      (takes_name naming depth frames met part parts name begins)
-  factor_agrees more agree end part parts formula rest Open begins is frames met =
-      let before = read_before (more Expression parts) (λ inner behind. closed end part.place inner behind) formula rest is in
-      closed_agrees frames met before.inner before.left part parts formula rest begins
-      (agree Expression parts before.inner before.left before.read_first (Parenthesis ∷ frames) met tt) end before.read_next
-  factor_agrees more agree end part parts formula rest Close begins is frames met = absurd (cc)
-  factor_agrees more agree end part parts formula rest (Broken place) begins is frames met = absurd (cc)
-  factor_agrees more agree end part parts formula rest (Sign Plus) begins is frames met = absurd (cc)
-  factor_agrees more agree end part parts formula rest (Sign Times) begins is frames met = absurd (cc)
-  factor_agrees more agree end part parts formula rest (Sign Over) begins is frames met = absurd (cc)
-  factor_agrees more agree end part parts formula rest (Sign Minus) begins is frames met =
-      let before = read_before (more Factor parts) (λ inner behind. found (Negative part.place inner) behind) formula rest is in
-      moved (λ f behind. wanted naming depth frames met (part ∷ parts) ≡ value naming depth frames met f >>= after naming depth frames
-      behind) (Negative part.place before.inner) formula before.left rest before.read_next
-      (takes_minus naming depth frames met part parts before.inner before.left begins
-      (agree Factor parts before.inner before.left before.read_first (Negation ∷ frames) met))
+  factor_agrees more agree end part parts formula rest (Number z) begins is frames operand_count =
+      moved (λ f following. wanted naming depth frames operand_count (part ∷ parts) ≡ value naming depth frames operand_count f >>= after naming depth frames
+      following) (Amount part.place z.millionths) formula parts rest is
+      (takes_number naming depth frames operand_count part parts z begins)
+  factor_agrees more agree end part parts formula rest (Name name) begins is frames operand_count =
+      moved (λ f following. wanted naming depth frames operand_count (part ∷ parts) ≡ value naming depth frames operand_count f >>= after naming depth frames
+      following) (Named part.place name) formula parts rest is
+      (takes_name naming depth frames operand_count part parts name begins)
+  factor_agrees more agree end part parts formula rest Open begins is frames operand_count =
+      let before = read_before (more Expression parts) (λ inner following. closed end part.place inner following) formula rest is in
+      closed_agrees frames operand_count before.inner before.left part parts formula rest begins
+      (agree Expression parts before.inner before.left before.read_first (Parenthesis ∷ frames) operand_count tt) end before.read_next
+  factor_agrees more agree end part parts formula rest Close begins is frames operand_count = absurd (cc)
+  factor_agrees more agree end part parts formula rest (Broken place) begins is frames operand_count = absurd (cc)
+  factor_agrees more agree end part parts formula rest (Sign Plus) begins is frames operand_count = absurd (cc)
+  factor_agrees more agree end part parts formula rest (Sign Times) begins is frames operand_count = absurd (cc)
+  factor_agrees more agree end part parts formula rest (Sign Over) begins is frames operand_count = absurd (cc)
+  factor_agrees more agree end part parts formula rest (Sign Minus) begins is frames operand_count =
+      let before = read_before (more Factor parts) (λ inner following. found (Negative part.place inner) following) formula rest is in
+      moved (λ f following. wanted naming depth frames operand_count (part ∷ parts) ≡ value naming depth frames operand_count f >>= after naming depth frames
+      following) (Negative part.place before.inner) formula before.left rest before.read_next
+      (takes_minus naming depth frames operand_count part parts before.inner before.left begins
+      (agree Factor parts before.inner before.left before.read_first (Negation ∷ frames) operand_count))
 
   factor_of_agrees : (more : Goal → List Part → Read) → AllAgree more →
       (end : ℕ) (parts : List Part) (formula : Formula) (rest : List Part) → factor_of more end parts ≡ found formula rest →
       Agrees Factor parts formula rest
-  factor_of_agrees more agree end [] formula rest is frames met = absurd (cc)
-  factor_of_agrees more agree end (part ∷ parts) formula rest is frames met =
-      factor_agrees more agree end part parts formula rest part.token refl is frames met
+  factor_of_agrees more agree end [] formula rest is frames operand_count = absurd (cc)
+  factor_of_agrees more agree end (part ∷ parts) formula rest is frames operand_count =
+      factor_agrees more agree end part parts formula rest part.token refl is frames operand_count
 
   pub read_agrees : (steps end : ℕ) (goal : Goal) (parts : List Part) (formula : Formula) (rest : List Part) →
       read steps end goal parts ≡ found formula rest → Agrees goal parts formula rest
@@ -313,28 +314,28 @@ formula_is text true formula is = absurd (cc)
 formula_is text false formula is = whole_is text (read_of text (parts_of text)) formula is
 
 -- the parts of a formula come to its value
-pub formula_runs : (naming : Naming) (depth met : ℕ) (text : List ℕ) (formula : Formula) → formula_of text ≡ Ok formula →
-    run naming depth (started met) (parts_of text) ≡ value_of naming depth met formula
+pub formula_runs : (naming : Naming) (depth operand_count : ℕ) (text : List ℕ) (formula : Formula) → formula_of text ≡ Ok formula →
+    run naming depth (started operand_count) (parts_of text) ≡ value_of naming depth operand_count formula
 unfolding formula_of
-formula_runs naming depth met text formula is =
+formula_runs naming depth operand_count text formula is =
     read_agrees naming depth (3 * length (parts_of text) + 3) (length text) Expression (parts_of text) formula []
-    (formula_is text (begins_blank text) formula is) [] met tt
-    ∙ then_same (value naming depth [] met formula) (value_of naming depth met formula) (after naming depth [] []) (λ a. Ok a)
-    (ap (λ deep. value_of naming deep met formula) (add-zero depth)) (nothing_after naming depth)
-    ∙ then_ok (value_of naming depth met formula)
+    (formula_is text (begins_blank text) formula is) [] operand_count tt
+    ∙ then_same (value naming depth [] operand_count formula) (value_of naming depth operand_count formula) (after naming depth [] []) (λ a. Ok a)
+    (ap (λ deep. value_of naming deep operand_count formula) (add-zero depth)) (nothing_after naming depth)
+    ∙ then_ok (value_of naming depth operand_count formula)
 
-parts_run_by : (naming : Naming) (depth met : ℕ) (text : List ℕ) (formed : Result Formula ℕ) (parts : List Part) →
+parts_run_by : (naming : Naming) (depth operand_count : ℕ) (text : List ℕ) (formed : Result Formula ℕ) (parts : List Part) →
     formula_of text ≡ formed → parts_by text formed ≡ Ok parts →
-    run naming depth (started met) parts ≡ value_of_read naming depth met formed
-parts_run_by naming depth met text (Ok formula) parts formed is =
+    run naming depth (started operand_count) parts ≡ value_of_read naming depth operand_count formed
+parts_run_by naming depth operand_count text (Ok formula) parts formed is =
     let same : parts_of text ≡ parts = cc in
-    ap (run naming depth (started met)) (sym same) ∙ formula_runs naming depth met text formula formed
-parts_run_by naming depth met text (Err place) parts formed is = absurd (cc)
+    ap (run naming depth (started operand_count)) (sym same) ∙ formula_runs naming depth operand_count text formula formed
+parts_run_by naming depth operand_count text (Err place) parts formed is = absurd (cc)
 
-parts_fault_by : (naming : Naming) (depth met : ℕ) (text : List ℕ) (formed : Result Formula ℕ) (fault : LineFault) →
-    parts_by text formed ≡ Err fault → value_of_read naming depth met formed ≡ Err fault
-parts_fault_by naming depth met text (Ok formula) fault is = absurd (cc)
-parts_fault_by naming depth met text (Err place) fault is = cc
+parts_fault_by : (naming : Naming) (depth operand_count : ℕ) (text : List ℕ) (formed : Result Formula ℕ) (fault : LineFault) →
+    parts_by text formed ≡ Err fault → value_of_read naming depth operand_count formed ≡ Err fault
+parts_fault_by naming depth operand_count text (Ok formula) fault is = absurd (cc)
+parts_fault_by naming depth operand_count text (Err place) fault is = cc
 
 parts_small_by : (text : List ℕ) (formed : Result Formula ℕ) (parts : List Part) → parts_by text formed ≡ Ok parts →
     All (λ part. IsSmall part.token) parts
@@ -344,28 +345,28 @@ parts_small_by text (Ok formula) parts is =
 parts_small_by text (Err place) parts is = absurd (cc)
 
 -- the parts of a text, if it is a formula
-pub parts_run : (naming : Naming) (depth met : ℕ) (text : List ℕ) (parts : List Part) → parts_formed text ≡ Ok parts →
-    run naming depth (started met) parts ≡ value_of_read naming depth met (formula_of text)
-parts_run naming depth met text parts is = parts_run_by naming depth met text (formula_of text) parts refl is
+pub parts_run : (naming : Naming) (depth operand_count : ℕ) (text : List ℕ) (parts : List Part) → parts_formed text ≡ Ok parts →
+    run naming depth (started operand_count) parts ≡ value_of_read naming depth operand_count (formula_of text)
+parts_run naming depth operand_count text parts is = parts_run_by naming depth operand_count text (formula_of text) parts refl is
 
-pub parts_fault : (naming : Naming) (depth met : ℕ) (text : List ℕ) (fault : LineFault) → parts_formed text ≡ Err fault →
-    value_of_read naming depth met (formula_of text) ≡ Err fault
-parts_fault naming depth met text fault is = parts_fault_by naming depth met text (formula_of text) fault is
+pub parts_fault : (naming : Naming) (depth operand_count : ℕ) (text : List ℕ) (fault : LineFault) → parts_formed text ≡ Err fault →
+    value_of_read naming depth operand_count (formula_of text) ≡ Err fault
+parts_fault naming depth operand_count text fault is = parts_fault_by naming depth operand_count text (formula_of text) fault is
 
 pub parts_formed_small : (text : List ℕ) (parts : List Part) → parts_formed text ≡ Ok parts → All (λ part. IsSmall part.token) parts
 parts_formed_small text parts is = parts_small_by text (formula_of text) parts is
 
 -- the same where the text is cut into parts by a function that may lack memory
-pub text_fault : (naming : Naming) (depth met : ℕ) (bytes text : List ℕ) (fault : LineFault) → bytes ≡ text →
+pub text_fault : (naming : Naming) (depth operand_count : ℕ) (bytes text : List ℕ) (fault : LineFault) → bytes ≡ text →
     (is_memory fault ≡ false → parts_formed bytes ≡ Err fault) →
-    Answers (value_of_read naming depth met (formula_of text)) (Err fault)
-unfolding Answers
-text_fault naming depth met bytes text fault same formed known =
-    parts_fault naming depth met text fault (ap parts_formed (sym same) ∙ formed known)
+    IsPlainOrMemory is_memory (value_of_read naming depth operand_count (formula_of text)) (Err fault)
+unfolding IsPlainOrMemory
+text_fault naming depth operand_count bytes text fault same formed known =
+    parts_fault naming depth operand_count text fault (ap parts_formed (sym same) ∙ formed known)
 
-pub text_value_is : (naming : Naming) (depth met : ℕ) (bytes text : List ℕ) (parts others : List Part) (result : Judged Reckoned) →
+pub text_value_is : (naming : Naming) (depth operand_count : ℕ) (bytes text : List ℕ) (parts others : List Part) (result : Result Evaluated LineFault) →
     bytes ≡ text → parts_formed bytes ≡ Ok parts → others ≡ parts →
-    Answers (run naming depth (started met) others) result → Answers (value_of_read naming depth met (formula_of text)) result
-text_value_is naming depth met bytes text parts others result same formed are answers =
-    subst (λ plain. Answers plain result) (ap (run naming depth (started met)) are
-    ∙ parts_run naming depth met text parts (ap parts_formed (sym same) ∙ formed)) answers
+    IsPlainOrMemory is_memory (run naming depth (started operand_count) others) result → IsPlainOrMemory is_memory (value_of_read naming depth operand_count (formula_of text)) result
+text_value_is naming depth operand_count bytes text parts others result same formed are answers =
+    subst (λ plain. IsPlainOrMemory is_memory plain result) (ap (run naming depth (started operand_count)) are
+    ∙ parts_run naming depth operand_count text parts (ap parts_formed (sym same) ∙ formed)) answers

@@ -3,7 +3,7 @@ use Rattle.std.proofs.Common.{◌≡◌, ℕ, List, Some, Ok, sym, ap, ◌∙◌
 use Rattle.spk_num.specs.Decimal.{decimal_text}
 use Rattle.spk_script.specs.declared.variable.Variable.{Variable}
 use Rattle.spk_script.specs.declared.variable.Variable.TheVariants.{Equal}
-use Rattle.spk_script.specs.Faults.{◌>>=◌}
+use Rattle.spk_num.specs.Results.{◌>>=◌}
 use Rattle.spk_script.specs.Values.{Environment, formula_value, text_of_variable, variable_text}
 
 pub text_of_equal : (variables : Environment) (name text : List ℕ) (variable : Variable) → Some variable ≡ variables name →

@@ -19,14 +19,14 @@ all_digits : (ds : List ℕ) → AllDigits 10 ds → prefix_len is_ascii_digit d
 all_digits [] digits = refl
 all_digits (d ∷ ds) digits = rw (digit_is_digit d digits.0) (omega (arith, all_digits ds digits.1))
 
-front_of_digits : (ds : List ℕ) → AllDigits 10 ds → front_digits ds ≡ ds
-front_of_digits ds digits = take_all (prefix_len is_ascii_digit ds) ds (omega (arith, all_digits ds digits))
+start_of_digits : (ds : List ℕ) → AllDigits 10 ds → front_digits ds ≡ ds
+start_of_digits ds digits = take_all (prefix_len is_ascii_digit ds) ds (omega (arith, all_digits ds digits))
 
-behind_all : (ds : List ℕ) → AllDigits 10 ds → behind_digits ds ≡ []
-behind_all ds digits = drop_all (length (front_digits ds)) ds (omega (arith, ap length (front_of_digits ds digits)))
+after_all : (ds : List ℕ) → AllDigits 10 ds → behind_digits ds ≡ []
+after_all ds digits = drop_all (length (front_digits ds)) ds (omega (arith, ap length (start_of_digits ds digits)))
 
 abbrev unsigned_numeral : List ℕ → List ℕ → Numeral
-unsigned_numeral front behind = record { negative = false; whole = front; places = places_in behind; rest = behind_places behind }
+unsigned_numeral prefix following = record { negative = false; whole = prefix; places = places_in following; rest = behind_places following }
 
 unsigned : (d : ℕ) (ds : List ℕ) → digit_value d < 10 → numeral (d ∷ ds) ≡ unsigned_numeral (front_digits (d ∷ ds)) (behind_digits (d ∷ ds))
 unsigned d ds below = rw (digit_is_no_sign d below) refl
@@ -34,8 +34,8 @@ unsigned d ds below = rw (digit_is_no_sign d below) refl
 numeral_of_digits : (ds : List ℕ) → IsNumeral 10 ds → numeral ds ≡ unsigned_numeral ds []
 numeral_of_digits [] digits = absurd (omega (arith, digits.0))
 numeral_of_digits (d ∷ ds) digits =
-    unsigned d ds digits.1.0 ∙ ap (λ front. unsigned_numeral front (behind_digits (d ∷ ds))) (front_of_digits (d ∷ ds) digits.1)
-    ∙ ap (unsigned_numeral (d ∷ ds)) (behind_all (d ∷ ds) digits.1)
+    unsigned d ds digits.1.0 ∙ ap (λ prefix. unsigned_numeral prefix (behind_digits (d ∷ ds))) (start_of_digits (d ∷ ds) digits.1)
+    ∙ ap (unsigned_numeral (d ∷ ds)) (after_all (d ∷ ds) digits.1)
 
 -- a number with no places, which isn't too large
 value_of_whole : (len : ℕ) (ds : List ℕ) (n : ℕ) → 0 < length ds → digits_value 10 ds ≡ n → n < 2 ^ 32 →

@@ -8,12 +8,12 @@ IsCommandAt lines place is = (line : LogicalLine) → is_command (get_or lines p
 
 -- the first command from a place on
 pub record IsFirstFrom (lines : List LogicalLine) (from place : ℕ) : Type 0 where
-  pub behind : from ≤ place
+  pub following : from ≤ place
   pub within : place < length lines
   pub is : IsCommandAt lines place true
   pub between : (k : ℕ) → from ≤ k → k < place → IsCommandAt lines k false
 
--- places of first commands, from the lines before a place; behind the last place there is no command
+-- places of first commands, from the lines before a place; after the last place there is no command
 pub record IsTableUpTo (lines : List LogicalLine) (places : List ℕ) (place : ℕ) : Type 0 where
   pub short : length places ≤ place
   pub first : (k : ℕ) → k < length places → IsFirstFrom lines k (get_or places k 0)

@@ -24,18 +24,18 @@ abbrev pub number_of : ℕ → Result ℤ DecFault → Token
 number_of place (Ok z) = Number (record { millionths = z })
 number_of place (Err fault) = Broken place
 
--- what stands behind `v_`: a name of 1 to 32 bytes
+-- what stands after `v_`: a name of 1 to 32 bytes
 abbrev pub name_of : ℕ → List ℕ → Token
 name_of place name =
     if length name == 0 then Broken place
     else (if nat_lt 32 (length name) then Broken (place + 32) else Name name)
 
--- what stands behind a `v`
+-- what stands after a `v`
 abbrev pub variable_of : ℕ → List ℕ → Token
 variable_of place [] = Broken place
 variable_of place (b ∷ text) = if b == 95 then name_of (place + 1) (take_while is_name_byte text) else Broken place
 
--- the part that begins with this byte at this place, with what stands behind it
+-- the part that begins with this byte at this place, with what stands after it
 abbrev pub token_of : ℕ → ℕ → List ℕ → Token
 token_of place b text =
     if is_number_byte b then number_of place (millionths_of (b ∷ take_while is_number_byte text))
@@ -56,15 +56,15 @@ more_of b text =
     else 0)
 
 -- the parts of a text from a place on, where so many bytes still belong to the part before
-unfoldable pub parts_behind : ℕ → ℕ → List ℕ → List Part
-parts_behind more place [] = []
-parts_behind (suc more) place (b ∷ text) = parts_behind more (place + 1) text
-parts_behind zero place (b ∷ text) =
-    if is_blank b then parts_behind 0 (place + 1) text
-    else record { place = place; token = token_of place b text } ∷ parts_behind (more_of b text) (place + 1) text
+unfoldable pub parts_after : ℕ → ℕ → List ℕ → List Part
+parts_after more place [] = []
+parts_after (suc more) place (b ∷ text) = parts_after more (place + 1) text
+parts_after zero place (b ∷ text) =
+    if is_blank b then parts_after 0 (place + 1) text
+    else record { place = place; token = token_of place b text } ∷ parts_after (more_of b text) (place + 1) text
 
 abbrev pub parts_of : List ℕ → List Part
-parts_of text = parts_behind 0 0 text
+parts_of text = parts_after 0 0 text
 
 -- A formula that was read. A number, a name, a minus before a factor and a parenthesis have the offset of their first byte.
 pub data Formula : Type 0 where
@@ -74,7 +74,7 @@ pub data Formula : Type 0 where
   Enclosed : ℕ → Formula → Formula
   Operation : Operator → Formula → Formula → Formula
 
--- what is to be read: one of the three, or more terms or factors behind those that were read
+-- what must be read: one of the three, or more terms or factors after those that were read
 pub data Goal : Type 0 where
   Expression : Goal
   Term : Goal
@@ -82,7 +82,7 @@ pub data Goal : Type 0 where
   MoreTerms : Formula → Goal
   MoreFactors : Formula → Goal
 
--- what was read, with the parts behind it, or the offset of the first byte that can't stand there
+-- what was read, with the parts after it, or the offset of the first byte that can't stand there
 abbrev pub Read : Type 0
 Read = Result (Formula × List Part) ℕ
 
@@ -91,7 +91,7 @@ abbrev pub ◌then◌ : Read → (Formula → List Part → Read) → Read
 Ok found then next = next found.0 found.1
 Err place then next = Err place
 
--- an operator of one of the two kinds at the front, with the parts behind it
+-- an operator of one of the two kinds at the start, with the parts after it
 abbrev pub is_sum : Operator → Bool
 is_sum Plus = true
 is_sum Minus = true
@@ -110,7 +110,7 @@ abbrev pub operator_at : (Operator → Bool) → List Part → Option (Operator 
 operator_at is [] = None
 operator_at is (part ∷ parts) = operator_by is part.token parts
 
--- a parenthesis closes at the front
+-- a parenthesis closes at the start
 abbrev pub closed_by : ℕ → Formula → Part → List Part → Token → Read
 closed_by place formula part parts Close = Ok (Enclosed place formula, parts)
 closed_by place formula part parts token = Err part.place
@@ -132,13 +132,13 @@ abbrev pub factor_of : (Goal → List Part → Read) → ℕ → List Part → R
 factor_of more end [] = Err end
 factor_of more end (part ∷ parts) = factor_by more end part.place parts part.token
 
--- more behind what was read, where an operator stands at the front
+-- more after what was read, where an operator stands at the start
 abbrev pub more_of_kind : (Goal → List Part → Read) → Goal → (Formula → Goal) → Formula → List Part → Option (Operator × List Part) → Read
 more_of_kind more goal again left parts None = Ok (left, parts)
 more_of_kind more goal again left parts (Some found) =
     more goal found.1 then λ right rest. more (again (Operation found.0 left right)) rest
 
--- What is read from the front of the parts of a text that ends at this offset, each step being one of so many at most.
+-- What is read from the start of the parts of a text that ends at this offset, each step being one of so many at most.
 unfoldable pub read : ℕ → ℕ → Goal → List Part → Read
 read zero end goal parts = Err end
 read (suc steps) end Expression parts = read steps end Term parts then λ left rest. read steps end (MoreTerms left) rest
@@ -155,7 +155,7 @@ begins_blank (b ∷ text) = is_blank b
 abbrev pub ends_blank : List ℕ → Bool
 ends_blank text = begins_blank (reverse text)
 
--- nothing stands behind a formula
+-- nothing stands after a formula
 abbrev pub whole : List ℕ → Read → Result Formula ℕ
 whole text (Err place) = Err place
 whole text (Ok (formula, [])) = if ends_blank text then Err (length text) else Ok formula

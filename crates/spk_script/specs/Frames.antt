@@ -1,8 +1,9 @@
 -- What stands open in a formula, the innermost first.
-use Rattle.std.specs.Prelude.{ℕ, ◌+◌, Bool, true, false, not, ◌||◌, if◌then◌else◌, List, [], ◌∷◌, Option, Some, None, Ok, ℤ, neg_ℤ}
+use Rattle.std.specs.Prelude.{ℕ, ◌+◌, Bool, true, false, not, ◌||◌, if◌then◌else◌, List, [], ◌∷◌, Option, Some, None, Ok, ℤ, neg_ℤ, Result}
+use Rattle.spk_script.specs.declared.fault.LineFault.{LineFault}
 use Rattle.spk_script.specs.declared.formula.stack.Frame.{Frame}
 use Rattle.spk_script.specs.declared.formula.stack.Frame.TheVariants.{Minus, Parenthesis, Pending}
-use Rattle.spk_script.specs.Faults.{Judged, ◌>>=◌}
+use Rattle.spk_num.specs.Results.{◌>>=◌}
 use Rattle.spk_script.specs.Formulas.{is_product}
 use Rattle.spk_script.specs.Values.{result_of}
 
@@ -22,13 +23,13 @@ is_finished before_product Parenthesis = false
 is_finished before_product (Pending operator left) = is_product operator || not before_product
 
 -- what becomes of a number inside
-abbrev pub applied : Frame → ℤ → Judged ℤ
+abbrev pub applied : Frame → ℤ → Result ℤ LineFault
 applied Minus z = Ok (neg_ℤ z)
 applied Parenthesis z = Ok z
 applied (Pending operator left) z = result_of operator left z
 
 -- the frames that a number doesn't finish, with what the others make of it
-unfoldable pub settled : Bool → List Frame → ℤ → Judged (List Frame × ℤ)
+unfoldable pub settled : Bool → List Frame → ℤ → Result (List Frame × ℤ) LineFault
 settled before_product [] z = Ok ([], z)
 settled before_product (frame ∷ frames) z =
     if is_finished before_product frame then (applied frame z >>= λ y. settled before_product frames y) else Ok (frame ∷ frames, z)
@@ -39,6 +40,6 @@ first_frame [] = None
 first_frame (frame ∷ frames) = Some frame
 
 -- the first frame, where a number finishes it
-abbrev pub finished_front : Bool → List Frame → Option Frame
-finished_front before_product [] = None
-finished_front before_product (frame ∷ frames) = if is_finished before_product frame then Some frame else None
+abbrev pub finished_first : Bool → List Frame → Option Frame
+finished_first before_product [] = None
+finished_first before_product (frame ∷ frames) = if is_finished before_product frame then Some frame else None

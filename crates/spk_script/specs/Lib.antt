@@ -6,14 +6,14 @@ pub mod Forms
 pub mod Formulas
 pub mod Frames
 pub mod LabelledScripts
+pub mod LineBuffers
 pub mod Lines
 pub mod Machine
+pub mod MachineStates
 pub mod Parts
 pub mod References
-pub mod Replacing
 pub mod Scripts
-pub mod Standing
+pub mod Substitution
 pub mod Tables
 pub mod Values
-pub mod WordParts
 pub mod Words

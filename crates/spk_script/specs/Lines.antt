@@ -1,4 +1,4 @@
--- The logical lines of a script: its physical lines, joined where one goes on in the next, each with its words.
+-- The logical lines of a script: its physical lines, joined where one continues in the next, each with its words.
 use Rattle.std.specs.Prelude.{◌≡◌, ℕ, ◌+◌, ◌-◌, Bool, false, not, ◌==◌, nat_lt, if◌then◌else◌, List, [], ◌∷◌, ◌++◌, length, get_or, take, map, reverse, Option, Some, None, Result, Ok, Err}
 use Rattle.std.specs.List.{slice_split, position, concat, find}
 use Rattle.spk_script.specs.declared.words.Word.{Word}
@@ -17,7 +17,7 @@ pub record LogicalLine : Type 0 where
 abbrev pub is_command : LogicalLine → Bool
 is_command line = nat_lt 0 (length line.words)
 
--- the physical lines, without their line feeds; where nothing stands behind the last line feed, that is no line
+-- the physical lines, without their line feeds; where nothing stands after the last line feed, that is no line
 abbrev pub is_empty_at_end : List (List ℕ) → Bool
 is_empty_at_end parts = length (get_or parts (length parts - 1) []) == 0
 
@@ -27,7 +27,7 @@ without_empty_end parts = if is_empty_at_end parts then take (length parts - 1) 
 abbrev pub physical_lines : List ℕ → List (List ℕ)
 physical_lines script = without_empty_end (slice_split (λ b. b == 10) script)
 
--- A line goes on in the next where its last byte that isn't blank is an ampersand. It gives then what stands before this
+-- A line continues in the next where its last byte that isn't blank is an ampersand. It gives then what stands before this
 -- one, and else all that it has.
 abbrev pub past_blanks : List ℕ → List ℕ
 past_blanks [] = []
@@ -36,28 +36,28 @@ past_blanks (b ∷ bytes) = if is_blank b then past_blanks bytes else b ∷ byte
 abbrev pub from_end : List ℕ → List ℕ
 from_end line = past_blanks (reverse line)
 
-abbrev pub goes_on_by : List ℕ → Bool
-goes_on_by [] = false
-goes_on_by (b ∷ before) = b == 38
+abbrev pub continues_by : List ℕ → Bool
+continues_by [] = false
+continues_by (b ∷ before) = b == 38
 
 abbrev pub given_by : List ℕ → List ℕ → List ℕ
 given_by line [] = line
 given_by line (b ∷ before) = if b == 38 then reverse before else line
 
-abbrev pub goes_on : List ℕ → Bool
-goes_on line = goes_on_by (from_end line)
+abbrev pub continues : List ℕ → Bool
+continues line = continues_by (from_end line)
 
 abbrev pub given : List ℕ → List ℕ
 given line = given_by line (from_end line)
 
--- The physical lines of each logical line: all but the last go on. Behind the script's last line nothing is joined.
+-- The physical lines of each logical line: all but the last continue. After the script's last line nothing is joined.
 abbrev pub with_first : List ℕ → List (List (List ℕ)) → List (List (List ℕ))
 with_first line [] = (line ∷ []) ∷ []
 with_first line (run ∷ runs) = (line ∷ run) ∷ runs
 
 abbrev pub runs_of : List (List ℕ) → List (List (List ℕ))
 runs_of [] = []
-runs_of (line ∷ lines) = if goes_on line then with_first line (runs_of lines) else (line ∷ []) ∷ runs_of lines
+runs_of (line ∷ lines) = if continues line then with_first line (runs_of lines) else (line ∷ []) ∷ runs_of lines
 
 -- what is echoed of a logical line, and what its words are cut from
 abbrev pub raw_of : List (List ℕ) → List ℕ
@@ -97,7 +97,7 @@ abbrev pub lines_of : List ℕ → Result (List LogicalLine) ScriptFault
 lines_of script =
     if nat_lt 1048576 (length script) then Err TooLong else lines_of_allowed script (position (λ b. not (is_allowed b)) script)
 
--- want of memory is no fault of the script
+-- out of memory is no fault of the script
 abbrev pub IsFault : Result (List LogicalLine) ScriptFault → ScriptFault → Type 0
 IsFault lines TooLong = lines ≡ Err TooLong
 IsFault lines (NotAscii place) = lines ≡ Err (NotAscii place)

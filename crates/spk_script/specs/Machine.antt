@@ -1,8 +1,9 @@
 -- The machine that goes through a script: where it stands, what it arrives at, and what it makes of a line.
-use Rattle.std.specs.Prelude.{ℕ, ◌+◌, ◌-◌, Bool, true, false, ◌&&◌, ◌==◌, nat_lt, if◌then◌else◌, List, [], ◌∷◌, drop, position, slice_get, codes, Option, Some, None, is_some, Ok, Err}
+use Rattle.std.specs.Prelude.{ℕ, ◌+◌, ◌-◌, Bool, true, false, ◌&&◌, ◌==◌, nat_lt, if◌then◌else◌, List, [], ◌∷◌, drop, position, slice_get, codes, Option, Some, None, is_some, Ok, Err, Result}
 use Rattle.std.specs.Map.{update}
 use Rattle.std.specs.Str.{bytes_eq}
 use Rattle.spk_num.specs.Whole.{whole_within}
+use Rattle.spk_script.specs.declared.fault.LineFault.{LineFault}
 use Rattle.spk_script.specs.declared.words.Word.{Word}
 use Rattle.spk_script.specs.declared.variable.Variable.{Variable}
 use Rattle.spk_script.specs.declared.variable.Variable.TheVariants.{Index, Loop, String, Equal}
@@ -13,10 +14,10 @@ use Rattle.spk_script.specs.declared.machine.Step.{Step}
 use Rattle.spk_script.specs.declared.machine.Step.TheVariants.{Words, Own}
 use Rattle.spk_script.specs.declared.setting.Setting.{Setting}
 use Rattle.spk_script.specs.Lines.{LogicalLine, is_command}
-use Rattle.spk_script.specs.Faults.{Judged, ◌>>=◌, ◌>>◌}
+use Rattle.spk_num.specs.Results.{◌>>=◌, ◌>>◌}
 use Rattle.spk_num.specs.Names.{is_name}
 use Rattle.spk_script.specs.Values.{Environment}
-use Rattle.spk_script.specs.Replacing.{line_words}
+use Rattle.spk_script.specs.Substitution.{line_words}
 
 -- How many lines the machine has gone past, the one that it stands at included; the variables; whether the next jump is
 -- skipped; and how often it has arrived at a command, which stays at 1000001.
@@ -44,9 +45,9 @@ abbrev pub with_settings : State → List Setting → State
 with_settings state [] = state
 with_settings state (setting ∷ settings) = with_settings (with_new_variable state setting.name (Index setting.value [])) settings
 
--- The machine arrives at the next command, and goes past it. The arrival behind the 1000000th is refused.
+-- The machine arrives at the next command, and goes past it. The arrival after the 1000000th is refused.
 pub record Arrived : Type 0 where
-  pub answer : Judged Arrival
+  pub answer : Result Arrival LineFault
   pub state : State
 
 abbrev pub arrive_where : State → ℕ → ℕ → Bool → Arrived
@@ -68,30 +69,30 @@ arrive lines state = arrive_ahead state state.place (drop state.place lines)
 abbrev pub line_at : List LogicalLine → State → Option LogicalLine
 line_at lines state = if state.place == 0 then None else slice_get lines (state.place - 1)
 
-abbrev pub name_judged : List ℕ → Judged (Unit {0})
+abbrev pub name_judged : List ℕ → Result (Unit {0}) LineFault
 name_judged name = if is_name name then Ok tt else Err (BadName name)
 
 -- a loop has 1 to 1000000 turns
-abbrev pub looped : State → List ℕ → Option ℕ → Judged State
+abbrev pub looped : State → List ℕ → Option ℕ → Result State LineFault
 looped state name None = Err LoopValue
 looped state name (Some last) = Ok (with_new_variable state name (Loop 1 last))
 
 -- a style that takes one value has no more
-abbrev pub none_left : List (List ℕ) → Judged (Unit {0})
+abbrev pub none_left : List (List ℕ) → Result (Unit {0}) LineFault
 none_left [] = Ok tt
 none_left (value ∷ values) = Err WrongWords
 
-abbrev pub loop_made : State → List ℕ → List ℕ → List (List ℕ) → Judged State
+abbrev pub loop_made : State → List ℕ → List ℕ → List (List ℕ) → Result State LineFault
 loop_made state name turns rest = none_left rest >> looped state name (whole_within 1 1000000 turns)
 
-abbrev pub string_made : State → List ℕ → List ℕ → List (List ℕ) → Judged State
+abbrev pub string_made : State → List ℕ → List ℕ → List (List ℕ) → Result State LineFault
 string_made state name text rest = none_left rest >> Ok (with_variable state name (String text))
 
-abbrev pub equal_made : State → List ℕ → List ℕ → List (List ℕ) → Judged State
+abbrev pub equal_made : State → List ℕ → List ℕ → List (List ℕ) → Result State LineFault
 equal_made state name formula rest = none_left rest >> Ok (with_variable state name (Equal formula))
 
 -- `variable NAME STYLE VALUE ..`
-abbrev pub variable_styled : State → List ℕ → List ℕ → List ℕ → List (List ℕ) → Judged State
+abbrev pub variable_styled : State → List ℕ → List ℕ → List ℕ → List (List ℕ) → Result State LineFault
 variable_styled state name style value rest =
     if bytes_eq style (codes "index") then Ok (with_new_variable state name (Index value rest))
     else (if bytes_eq style (codes "loop") then loop_made state name value rest
@@ -99,10 +100,10 @@ variable_styled state name style value rest =
     else (if bytes_eq style (codes "equal") then equal_made state name value rest
     else Err (BadStyle style))))
 
-abbrev pub variable_named : State → List ℕ → List ℕ → List ℕ → List (List ℕ) → Judged State
+abbrev pub variable_named : State → List ℕ → List ℕ → List ℕ → List (List ℕ) → Result State LineFault
 variable_named state name style value rest = name_judged name >> variable_styled state name style value rest
 
-abbrev pub variable_made : State → List (List ℕ) → Judged State
+abbrev pub variable_made : State → List (List ℕ) → Result State LineFault
 variable_made state (name ∷ style ∷ value ∷ rest) = variable_named state name style value rest
 variable_made state words = Err WrongWords
 
@@ -123,19 +124,19 @@ abbrev pub with_next : State → List ℕ → Option Variable → State
 with_next state name None = record state { variables = update bytes_eq state.variables name None; skips = true }
 with_next state name (Some next) = with_variable state name next
 
-abbrev pub stepped_by : State → List ℕ → Option Variable → Judged State
+abbrev pub stepped_by : State → List ℕ → Option Variable → Result State LineFault
 stepped_by state name None = Err (UnknownVariable name)
 stepped_by state name (Some variable) = if has_steps variable then Ok (with_next state name (next_variable variable)) else Err (NotStepped name)
 
-abbrev pub step_named : State → List ℕ → Judged State
+abbrev pub step_named : State → List ℕ → Result State LineFault
 step_named state name = name_judged name >> stepped_by state name (state.variables name)
 
-abbrev pub stepped : State → List (List ℕ) → Judged State
+abbrev pub stepped : State → List (List ℕ) → Result State LineFault
 stepped state (name ∷ []) = step_named state name
 stepped state words = Err WrongWords
 
 -- `label L` does nothing
-abbrev pub labelled : State → List (List ℕ) → Judged State
+abbrev pub labelled : State → List (List ℕ) → Result State LineFault
 labelled state (label ∷ []) = Ok state
 labelled state words = Err WrongWords
 
@@ -148,21 +149,21 @@ abbrev pub label_place : List LogicalLine → List ℕ → Option ℕ
 label_place lines label = position (λ line. is_label_by label line.words) lines
 
 -- `jump SELF L`: the machine stands at that line, unless the jump is skipped
-abbrev pub landed : State → List ℕ → Option ℕ → Judged State
+abbrev pub landed : State → List ℕ → Option ℕ → Result State LineFault
 landed state label None = Err (NoSuchLabel label)
 landed state label (Some place) = Ok (record state { place = place + 1 })
 
-abbrev pub jumped_to : List LogicalLine → State → List ℕ → List ℕ → Judged State
+abbrev pub jumped_to : List LogicalLine → State → List ℕ → List ℕ → Result State LineFault
 jumped_to lines state file label =
     if state.skips then Ok (record state { skips = false })
     else (if bytes_eq file (codes "SELF") then landed state label (label_place lines label) else Err OtherFile)
 
-abbrev pub jumped : List LogicalLine → State → List (List ℕ) → Judged State
+abbrev pub jumped : List LogicalLine → State → List (List ℕ) → Result State LineFault
 jumped lines state (file ∷ label ∷ []) = jumped_to lines state file label
 jumped lines state words = Err WrongWords
 
 -- the commands of the machine itself; a line that has no word left is one too
-abbrev pub own_named : List LogicalLine → State → List ℕ → List (List ℕ) → Option (Judged State)
+abbrev pub own_named : List LogicalLine → State → List ℕ → List (List ℕ) → Option (Result State LineFault)
 own_named lines state first rest =
     if bytes_eq first (codes "variable") then Some (variable_made state rest)
     else (if bytes_eq first (codes "next") then Some (stepped state rest)
@@ -170,18 +171,18 @@ own_named lines state first rest =
     else (if bytes_eq first (codes "jump") then Some (jumped lines state rest)
     else None)))
 
-abbrev pub own_command : List LogicalLine → State → List (List ℕ) → Option (Judged State)
+abbrev pub own_command : List LogicalLine → State → List (List ℕ) → Option (Result State LineFault)
 own_command lines state [] = Some (Ok state)
 own_command lines state (first ∷ rest) = own_named lines state first rest
 
 -- such a command is obeyed; the words of another one are handed on
-abbrev pub come_to : ℕ → List (List ℕ) → State → Option (Judged State) → Judged (Step × State)
+abbrev pub come_to : ℕ → List (List ℕ) → State → Option (Result State LineFault) → Result (Step × State) LineFault
 come_to number words state None = Ok (Words number words, state)
 come_to number words state (Some own) = own >>= λ next. Ok (Own number, next)
 
-abbrev pub obeyed : List LogicalLine → State → ℕ → List (List ℕ) → Judged (Step × State)
+abbrev pub obeyed : List LogicalLine → State → ℕ → List (List ℕ) → Result (Step × State) LineFault
 obeyed lines state number words = come_to number words state (own_command lines state words)
 
 -- what the machine makes of a line that it stands at
-unfoldable pub read : List LogicalLine → State → LogicalLine → Judged (Step × State)
+unfoldable pub read : List LogicalLine → State → LogicalLine → Result (Step × State) LineFault
 read lines state line = line_words state.variables line.words >>= λ words. obeyed lines state line.number words

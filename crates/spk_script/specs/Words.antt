@@ -17,12 +17,12 @@ abbrev pub is_quote : ℕ → Bool
 is_quote b = b == 34
 
 -- what stands before a byte of a line: no word, a part of a bare word, or a quoted word that isn't closed
-pub data Behind : Type 0 where
-  Blank : Behind
-  Bare : Behind
-  Quoted : Behind
+pub data Context : Type 0 where
+  Blank : Context
+  Bare : Context
+  Quoted : Context
 
--- one word more in front of the words, and one byte more in front of the first word
+-- one word more before the words, and one byte more before the first word
 abbrev pub put_word : Word → Option (List Word) → Option (List Word)
 put_word word None = None
 put_word word (Some words) = Some (word ∷ words)
@@ -38,19 +38,19 @@ end_of quoted = record { text = []; quoted = quoted }
 -- The words of what is left of a line, from the left; the first is the rest of the word that has begun. A comment ends
 -- the line outside quotes, also inside a word. A quote that begins a word and has no partner leaves no words at all; a
 -- quote inside a bare word is plain. What follows a closing quote begins a new word.
-unfoldable pub words_behind : Behind → List ℕ → Option (List Word)
-words_behind Blank [] = Some []
-words_behind Blank (b ∷ text) =
+unfoldable pub words_after : Context → List ℕ → Option (List Word)
+words_after Blank [] = Some []
+words_after Blank (b ∷ text) =
     if is_comment b then Some []
-    else (if is_blank b then words_behind Blank text
-    else (if is_quote b then words_behind Quoted text else put_byte b (words_behind Bare text)))
-words_behind Bare [] = Some (end_of false ∷ [])
-words_behind Bare (b ∷ text) =
+    else (if is_blank b then words_after Blank text
+    else (if is_quote b then words_after Quoted text else put_byte b (words_after Bare text)))
+words_after Bare [] = Some (end_of false ∷ [])
+words_after Bare (b ∷ text) =
     if is_comment b then Some (end_of false ∷ [])
-    else (if is_blank b then put_word (end_of false) (words_behind Blank text) else put_byte b (words_behind Bare text))
-words_behind Quoted [] = None
-words_behind Quoted (b ∷ text) = if is_quote b then put_word (end_of true) (words_behind Blank text) else put_byte b (words_behind Quoted text)
+    else (if is_blank b then put_word (end_of false) (words_after Blank text) else put_byte b (words_after Bare text))
+words_after Quoted [] = None
+words_after Quoted (b ∷ text) = if is_quote b then put_word (end_of true) (words_after Blank text) else put_byte b (words_after Quoted text)
 
 -- the words of a line, where each quote that begins a word is closed
 abbrev pub words_of : List ℕ → Option (List Word)
-words_of text = words_behind Blank text
+words_of text = words_after Blank text

@@ -3,11 +3,13 @@
 ghost use Rattle.std.specs.Prelude.{◌≡◌, ◌≤◌, length, IfOk, OnErr, Ok};
 ghost use Rattle.std.specs.List.{All};
 ghost use Rattle.spk_num.specs.Whole.{whole_within};
-ghost use Rattle.spk_script.specs.Faults.{Answers};
+ghost use Rattle.spk_num.specs.Results.{IsPlainOrMemory};
+ghost use Rattle.spk_script.specs.Faults.{is_memory};
 ghost use Rattle.spk_script.specs.Machine.{name_judged, none_left, with_new_variable, with_variable};
 ghost use Rattle.spk_script.specs.Machine.{looped, loop_made, string_made, equal_made, variable_styled, variable_named, variable_made};
 ghost use Rattle.spk_script.specs.Machine.{stepped_by, step_named, stepped, labelled, jumped_to, jumped};
-ghost use Rattle.spk_script.specs.Standing.{state_of, made_to};
+ghost use Rattle.spk_script.specs.MachineStates.{state_of};
+ghost use Rattle.spk_num.specs.Results.{result_with};
 
 use crate::fault::LineFault;
 use crate::labelled_script::LabelledScript;
@@ -25,7 +27,7 @@ const MOST_TURNS: u64 = 1_000_000;
 /// Refuses a word that is no name.
 #[tactic(auto, using(crate::proofs::FaultLaws::judged))]
 fn judge_name(alloc: Global, word: &Text) -> Result<(), LineFault>
-    ensures { Answers (name_judged word.now) result }
+    ensures { IsPlainOrMemory is_memory (name_judged word.now) result }
 {
     if is_name(word.as_bytes()) {
         return Ok(());
@@ -33,10 +35,10 @@ fn judge_name(alloc: Global, word: &Text) -> Result<(), LineFault>
     Err(LineFault::BadName(Text::copy(alloc, word.as_str())?))
 }
 
-/// Refuses words behind the one that a style takes.
+/// Refuses words after the one that a style takes.
 #[tactic(auto, using(crate::proofs::FaultLaws::judged))]
 fn judge_rest(rest: &[Text]) -> Result<(), LineFault>
-    ensures { Answers (none_left rest.now) result }
+    ensures { IsPlainOrMemory is_memory (none_left rest.now) result }
 {
     if rest.is_empty() {
         Ok(())
@@ -91,7 +93,7 @@ impl MachineState {
         value: &Text,
         later: &[Text],
     ) -> Result<(), LineFault>
-        ensures answer { Answers (Ok (with_new_variable (state_of self.old) name.now (Variable.Index value.now later.now))) (made_to (state_of self.new) result) }
+        ensures answer { IsPlainOrMemory is_memory (Ok (with_new_variable (state_of self.old) name.now (Variable.Index value.now later.now))) (result_with (state_of self.new) result) }
         ensures same { OnErr result (state_of self.new ≡ state_of self.old) }
         ensures arrivals { self.new.arrivals ≡ self.old.arrivals }
     {
@@ -109,7 +111,7 @@ impl MachineState {
         turns: &Text,
         rest: &[Text],
     ) -> Result<(), LineFault>
-        ensures answer { Answers (loop_made (state_of self.old) name.now turns.now rest.now) (made_to (state_of self.new) result) }
+        ensures answer { IsPlainOrMemory is_memory (loop_made (state_of self.old) name.now turns.now rest.now) (result_with (state_of self.new) result) }
         ensures same { OnErr result (state_of self.new ≡ state_of self.old) }
         ensures arrivals { self.new.arrivals ≡ self.old.arrivals }
     {
@@ -119,7 +121,7 @@ impl MachineState {
 
     #[tactic(auto, using(crate::proofs::FaultLaws::made))]
     fn make_turns(&mut self, alloc: Global, name: &Text, turns: &Text) -> Result<(), LineFault>
-        ensures answer { Answers (looped (state_of self.old) name.now (whole_within 1 1000000 turns.now)) (made_to (state_of self.new) result) }
+        ensures answer { IsPlainOrMemory is_memory (looped (state_of self.old) name.now (whole_within 1 1000000 turns.now)) (result_with (state_of self.new) result) }
         ensures same { OnErr result (state_of self.new ≡ state_of self.old) }
         ensures arrivals { self.new.arrivals ≡ self.old.arrivals }
     {
@@ -145,7 +147,7 @@ impl MachineState {
         text: &Text,
         rest: &[Text],
     ) -> Result<(), LineFault>
-        ensures answer { Answers (string_made (state_of self.old) name.now text.now rest.now) (made_to (state_of self.new) result) }
+        ensures answer { IsPlainOrMemory is_memory (string_made (state_of self.old) name.now text.now rest.now) (result_with (state_of self.new) result) }
         ensures same { OnErr result (state_of self.new ≡ state_of self.old) }
         ensures arrivals { self.new.arrivals ≡ self.old.arrivals }
     {
@@ -164,7 +166,7 @@ impl MachineState {
         rest: &[Text],
     ) -> Result<(), LineFault>
         requires { length formula.now ≤ 4096 }
-        ensures answer { Answers (equal_made (state_of self.old) name.now formula.now rest.now) (made_to (state_of self.new) result) }
+        ensures answer { IsPlainOrMemory is_memory (equal_made (state_of self.old) name.now formula.now rest.now) (result_with (state_of self.new) result) }
         ensures same { OnErr result (state_of self.new ≡ state_of self.old) }
         ensures arrivals { self.new.arrivals ≡ self.old.arrivals }
     {
@@ -174,7 +176,7 @@ impl MachineState {
         Ok(())
     }
 
-    /// Makes a variable of a style, by the value that stands behind it and those behind that one.
+    /// Makes a variable of a style, by the value that stands after it and those after that one.
     #[tactic(auto, using(crate::proofs::FaultLaws::made))]
     fn make_styled(
         &mut self,
@@ -185,7 +187,7 @@ impl MachineState {
         rest: &[Text],
     ) -> Result<(), LineFault>
         requires { length value.now ≤ 4096 }
-        ensures answer { Answers (variable_styled (state_of self.old) name.now style.now value.now rest.now) (made_to (state_of self.new) result) }
+        ensures answer { IsPlainOrMemory is_memory (variable_styled (state_of self.old) name.now style.now value.now rest.now) (result_with (state_of self.new) result) }
         ensures same { OnErr result (state_of self.new ≡ state_of self.old) }
         ensures arrivals { self.new.arrivals ≡ self.old.arrivals }
     {
@@ -198,11 +200,11 @@ impl MachineState {
         }
     }
 
-    /// Obeys `variable` with these words behind it.
+    /// Obeys `variable` with these words after it.
     #[tactic(auto, using(crate::proofs::FaultLaws::made))]
     pub fn make_variable(&mut self, alloc: Global, words: &[Text]) -> Result<(), LineFault>
         requires { All (λ word. length word ≤ 4096) words.now }
-        ensures answer { Answers (variable_made (state_of self.old) words.now) (made_to (state_of self.new) result) }
+        ensures answer { IsPlainOrMemory is_memory (variable_made (state_of self.old) words.now) (result_with (state_of self.new) result) }
         ensures same { OnErr result (state_of self.new ≡ state_of self.old) }
         ensures arrivals { self.new.arrivals ≡ self.old.arrivals }
     {
@@ -223,7 +225,7 @@ impl MachineState {
         rest: &[Text],
     ) -> Result<(), LineFault>
         requires { length value.now ≤ 4096 }
-        ensures answer { Answers (variable_named (state_of self.old) name.now style.now value.now rest.now) (made_to (state_of self.new) result) }
+        ensures answer { IsPlainOrMemory is_memory (variable_named (state_of self.old) name.now style.now value.now rest.now) (result_with (state_of self.new) result) }
         ensures same { OnErr result (state_of self.new ≡ state_of self.old) }
         ensures arrivals { self.new.arrivals ≡ self.old.arrivals }
     {
@@ -231,14 +233,14 @@ impl MachineState {
         self.make_styled(alloc, name, style, value, rest)
     }
 
-    /// Goes to the next value of a variable. Behind its last one the variable is deleted, and the next jump is skipped.
+    /// Goes to the next value of a variable. After its last one the variable is deleted, and the next jump is skipped.
     #[tactic(auto, using(crate::proofs::FaultLaws::made))]
     fn step(&mut self, alloc: Global, name: &Text) -> Result<(), LineFault>
-        ensures answer { Answers (stepped_by (state_of self.old) name.now ((state_of self.old).variables name.now)) (made_to (state_of self.new) result) }
+        ensures answer { IsPlainOrMemory is_memory (stepped_by (state_of self.old) name.now ((state_of self.old).variables name.now)) (result_with (state_of self.new) result) }
         ensures same { OnErr result (state_of self.new ≡ state_of self.old) }
         ensures arrivals { self.new.arrivals ≡ self.old.arrivals }
     {
-        match self.variables.go_on(name.as_str()) {
+        match self.variables.advance(name.as_str()) {
             Stepped::Next => Ok(()),
             Stepped::Exhausted => {
                 self.variables.remove(name.as_str());
@@ -250,10 +252,10 @@ impl MachineState {
         }
     }
 
-    /// Obeys `next` with these words behind it.
+    /// Obeys `next` with these words after it.
     #[tactic(auto, using(crate::proofs::FaultLaws::made))]
     pub fn step_variable(&mut self, alloc: Global, words: &[Text]) -> Result<(), LineFault>
-        ensures answer { Answers (stepped (state_of self.old) words.now) (made_to (state_of self.new) result) }
+        ensures answer { IsPlainOrMemory is_memory (stepped (state_of self.old) words.now) (result_with (state_of self.new) result) }
         ensures same { OnErr result (state_of self.new ≡ state_of self.old) }
         ensures arrivals { self.new.arrivals ≡ self.old.arrivals }
     {
@@ -266,7 +268,7 @@ impl MachineState {
     /// Goes to the next value of the variable that a word names.
     #[tactic(auto, using(crate::proofs::FaultLaws::made))]
     fn step_named(&mut self, alloc: Global, name: &Text) -> Result<(), LineFault>
-        ensures answer { Answers (step_named (state_of self.old) name.now) (made_to (state_of self.new) result) }
+        ensures answer { IsPlainOrMemory is_memory (step_named (state_of self.old) name.now) (result_with (state_of self.new) result) }
         ensures same { OnErr result (state_of self.new ≡ state_of self.old) }
         ensures arrivals { self.new.arrivals ≡ self.old.arrivals }
     {
@@ -274,10 +276,10 @@ impl MachineState {
         self.step(alloc, name)
     }
 
-    /// Obeys `label` with these words behind it.
+    /// Obeys `label` with these words after it.
     #[tactic(auto, using(crate::proofs::FaultLaws::made))]
     pub fn pass_label(&mut self, words: &[Text]) -> Result<(), LineFault>
-        ensures answer { Answers (labelled (state_of self.old) words.now) (made_to (state_of self.new) result) }
+        ensures answer { IsPlainOrMemory is_memory (labelled (state_of self.old) words.now) (result_with (state_of self.new) result) }
         ensures same { state_of self.new ≡ state_of self.old }
         ensures arrivals { self.new.arrivals ≡ self.old.arrivals }
     {
@@ -296,7 +298,7 @@ impl MachineState {
         file: &Text,
         label: &Text,
     ) -> Result<(), LineFault>
-        ensures answer { Answers (jumped_to script.now (state_of self.old) file.now label.now) (made_to (state_of self.new) result) }
+        ensures answer { IsPlainOrMemory is_memory (jumped_to script.now (state_of self.old) file.now label.now) (result_with (state_of self.new) result) }
         ensures same { OnErr result (state_of self.new ≡ state_of self.old) }
         ensures arrivals { self.new.arrivals ≡ self.old.arrivals }
     {
@@ -314,7 +316,7 @@ impl MachineState {
         Ok(())
     }
 
-    /// Obeys `jump` with these words behind it.
+    /// Obeys `jump` with these words after it.
     #[tactic(auto, using(crate::proofs::FaultLaws::made))]
     pub fn jump(
         &mut self,
@@ -322,7 +324,7 @@ impl MachineState {
         script: &LabelledScript,
         words: &[Text],
     ) -> Result<(), LineFault>
-        ensures answer { Answers (jumped script.now (state_of self.old) words.now) (made_to (state_of self.new) result) }
+        ensures answer { IsPlainOrMemory is_memory (jumped script.now (state_of self.old) words.now) (result_with (state_of self.new) result) }
         ensures same { OnErr result (state_of self.new ≡ state_of self.old) }
         ensures arrivals { self.new.arrivals ≡ self.old.arrivals }
     {

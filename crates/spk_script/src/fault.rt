@@ -34,7 +34,7 @@ pub enum LineFault {
     NoSuchLabel(Text),
     /// No variable has this style.
     BadStyle(Text),
-    /// Memory is wanting.
+    /// Out of memory.
     Memory,
 }
 

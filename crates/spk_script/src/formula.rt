@@ -1,6 +1,7 @@
 //! Formulas: exact decimal numbers of six places, computed from a text.
 
-ghost use Rattle.spk_script.specs.Faults.{Answers};
+ghost use Rattle.spk_num.specs.Results.{IsPlainOrMemory};
+ghost use Rattle.spk_script.specs.Faults.{is_memory};
 ghost use Rattle.spk_script.specs.Values.{formula_value};
 ghost use Rattle.spk_script.specs.Tables.{environment_of};
 
@@ -25,10 +26,10 @@ pub fn formula_value(
     variables: &VariableTable,
     text: &FormulaText,
 ) -> Result<Dec, LineFault>
-    ensures { Answers (formula_value (environment_of variables.now) text.now) result }
+    ensures { IsPlainOrMemory is_memory (formula_value (environment_of variables.now) text.now) result }
 {
-    let reckoned = value_of_text(alloc, variables, 0, 0, text)?;
-    Ok(reckoned.value().number())
+    let evaluated = value_of_text(alloc, variables, 0, 0, text)?;
+    Ok(evaluated.value().number())
 }
 
 #[cfg(test)]

@@ -4,7 +4,7 @@ ghost use Rattle.std.specs.Prelude.{◌≡◌, ◌<◌, ◌+◌, ◌^◌, length
 ghost use Rattle.spk_script.specs.Lines.{LogicalLine};
 ghost use Rattle.spk_script.specs.Machine.{State, arrive_ahead, label_place};
 ghost use Rattle.spk_script.specs.Scripts.{IsScript};
-ghost use Rattle.spk_script.specs.Standing.{arrive_found};
+ghost use Rattle.spk_script.specs.MachineStates.{arrive_found};
 
 use crate::command_table::CommandTable;
 use crate::labels::Labels;
@@ -129,19 +129,6 @@ mod tests {
             let labelled = LabelledScript::new(rt.alloc(), script)?;
             assert_eq!(rt; labelled.label_place(label), *wanted);
         }
-        Ok(())
-    }
-
-    #[test]
-    fn keeps_the_script(rt: HostRuntime) -> Result<(), Fail> {
-        let Ok(script) = Script::read(rt.alloc(), b"label a\n\nrun 1\n") else {
-            panic!(rt; "no script");
-        };
-        let labelled = LabelledScript::new(rt.alloc(), script)?;
-        let [_, _, last] = labelled.script().lines() else {
-            panic!(rt; "not three lines");
-        };
-        assert_eq!(rt; last.number, 3);
         Ok(())
     }
 }

@@ -4,18 +4,19 @@
 mod bytes;
 mod command_table;
 mod commands;
+mod continuation;
 mod fault;
 mod formula;
-mod joined;
 mod labelled_script;
 mod labels;
+mod line_buffer;
 mod logical;
 mod machine;
 mod physical;
-mod replacing;
 mod script;
 mod setting;
 mod state;
+mod substitution;
 #[cfg(test)]
 mod tests;
 mod variable;

@@ -5,7 +5,7 @@ ghost use Rattle.std.specs.List.{All, list_all};
 ghost use Rattle.spk_script.specs.Words.{is_allowed};
 ghost use Rattle.spk_script.specs.Lines.{runs_of, raw_of, text_of, logical_line, logical_lines, IsFault};
 
-use crate::joined::{given, goes_on};
+use crate::continuation::{continues, given};
 use crate::script::{Line, ScriptFault};
 use crate::words::words_of;
 use std::alloc::{AllocError, Global};
@@ -19,7 +19,7 @@ fn length_of_first(lines: &[&[u8]]) -> usize
         ≡ take result (map (λ line. line.now) lines.now) ∷ runs_of (drop result (map (λ line. line.now) lines.now)) }
 {
     for (index, line) in lines.iter().enumerate() {
-        if !goes_on(line) {
+        if !continues(line) {
             return index + 1;
         }
     }
@@ -65,7 +65,7 @@ fn logical_line(alloc: Global, number: u32, run: &[&[u8]]) -> Result<Option<Line
     Ok(Some(Line { number, raw, words }))
 }
 
-/// Puts one line more behind those that were read.
+/// Puts one line more after those that were read.
 fn put(logical: &mut Vec<Line>, line: Line) -> Result<(), AllocError>
     ensures { IfOk result (λ _. logical.new.items ≡ logical.old.items ++ line ∷ []) }
 {

@@ -3,17 +3,18 @@
 ghost use Rattle.std.specs.Prelude.{◌≡◌, ◌≤◌, length, Some, IfOk, IfSome, IsSome, OnErr, MatchOption};
 ghost use Rattle.std.specs.List.{All};
 ghost use Rattle.std.specs.Str.{IsAscii};
-ghost use Rattle.spk_script.specs.Faults.{Answers};
+ghost use Rattle.spk_num.specs.Results.{IsPlainOrMemory};
+ghost use Rattle.spk_script.specs.Faults.{is_memory};
 ghost use Rattle.spk_script.specs.Machine.{new_state, with_settings, arrive, line_at, own_named, own_command, obeyed, read};
-ghost use Rattle.spk_script.specs.Replacing.{line_words};
-ghost use Rattle.spk_script.specs.Standing.{state_of, arrived_to, OwnTo, own_step, read_to, StandsAt};
+ghost use Rattle.spk_script.specs.Substitution.{line_words};
+ghost use Rattle.spk_script.specs.MachineStates.{state_of, arrived_to, OwnTo, own_step, read_to, StandsAt};
 
 use crate::fault::LineFault;
 use crate::labelled_script::LabelledScript;
-use crate::replacing::line_words;
 use crate::script::{Line, Script};
 use crate::setting::Setting;
 use crate::state::MachineState;
+use crate::substitution::line_words;
 use spk_num::OutOfMemory;
 use spk_num::text::Text;
 use spk_num::texts::Texts;
@@ -29,7 +30,7 @@ pub enum Arrival {
 /// What the line with this number came to.
 #[derive(Debug, Drop)]
 pub enum Step {
-    /// A command with these words, which somebody else is to obey.
+    /// A command with these words, which the caller must obey.
     Words(u32, Texts),
     /// The machine has obeyed it, or it had no word left.
     Own(u32),
@@ -88,7 +89,7 @@ impl Machine {
     pub fn next_command(&mut self) -> Result<Step, LineFault>
         requires { IsSome (line_at self.old.script (state_of self.old.state)) }
         ensures step { IfSome (line_at self.old.script (state_of self.old.state))
-            (λ line. Answers (read self.old.script (state_of self.old.state) line) (read_to (state_of self.new.state) result)) }
+            (λ line. IsPlainOrMemory is_memory (read self.old.script (state_of self.old.state) line) (read_to (state_of self.new.state) result)) }
         ensures same { OnErr result (state_of self.new.state ≡ state_of self.old.state) }
         ensures arrivals { self.new.state.arrivals ≡ self.old.state.arrivals }
         ensures script { self.new.script ≡ self.old.script }
@@ -118,7 +119,7 @@ impl Machine {
     /// The words of the line at which it stands, with the names in them replaced.
     fn words(&self) -> Result<Texts, LineFault>
         requires { IsSome (line_at self.now.script (state_of self.now.state)) }
-        ensures answer { IfSome (line_at self.now.script (state_of self.now.state)) (λ line. Answers (line_words (state_of self.now.state).variables line.words) result) }
+        ensures answer { IfSome (line_at self.now.script (state_of self.now.state)) (λ line. IsPlainOrMemory is_memory (line_words (state_of self.now.state).variables line.words) result) }
         ensures short { IfOk result (All (λ word. length word ≤ 4096)) }
     {
         line_words(self.alloc, &self.state.variables, self.line().words())
@@ -127,7 +128,7 @@ impl Machine {
     /// Obeys a command of the machine, and hands on the words of another one.
     fn obey(&mut self, number: u32, words: Texts) -> Result<Step, LineFault>
         requires { All (λ word. length word ≤ 4096) words }
-        ensures step { Answers (obeyed self.old.script (state_of self.old.state) number words) (read_to (state_of self.new.state) result) }
+        ensures step { IsPlainOrMemory is_memory (obeyed self.old.script (state_of self.old.state) number words) (read_to (state_of self.new.state) result) }
         ensures same { OnErr result (state_of self.new.state ≡ state_of self.old.state) }
         ensures arrivals { self.new.state.arrivals ≡ self.old.state.arrivals }
         ensures script { self.new.script ≡ self.old.script }
@@ -152,7 +153,7 @@ impl Machine {
         }
     }
 
-    /// Obeys a command of the machine with these words behind its first one, where that names one.
+    /// Obeys a command of the machine with these words after its first one, where that names one.
     fn obey_named(&mut self, first: &Text, rest: &[Text]) -> Option<Result<(), LineFault>>
         requires { All (λ word. length word ≤ 4096) rest.now }
         ensures own { OwnTo (own_named self.old.script (state_of self.old.state) first.now rest.now) (state_of self.new.state) result }

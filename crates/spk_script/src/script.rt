@@ -29,7 +29,7 @@ pub enum ScriptFault {
     TooManyLines,
     /// The logical line with this number is the first in which a quote isn't closed.
     OpenQuote(u32),
-    /// Memory is wanting.
+    /// Out of memory.
     Memory,
 }
 
@@ -156,12 +156,12 @@ mod tests {
     use super::*;
     use std::test::Fail;
 
-    // Each line as its number, its physical lines, and its words with a bar in front of each.
+    // Each line as its number, its physical lines, and its words with a bar before each.
     fn told(alloc: Global, script: &Script) -> Result<String, AllocError> {
         let mut text = String::new(alloc);
-        for line in &script.lines {
+        for line in script.lines() {
             text.push_str(format!(in alloc; "{}:", line.number)?.as_str())?;
-            for byte in &line.raw {
+            for byte in script.raw(line.number) {
                 text.push(*byte as char)?;
             }
             for word in &line.words {
@@ -174,8 +174,8 @@ mod tests {
     }
 
     #[test]
-    fn joins_lines(rt: HostRuntime) -> Result<(), Fail> {
-        let cases: [(&[u8], &str); 9] = [
+    fn reads_lines_and_words(rt: HostRuntime) -> Result<(), Fail> {
+        let cases: [(&[u8], &str); 12] = [
             (b"", ""),
             (b"\n", "1:\n;"),
             (
@@ -191,44 +191,14 @@ mod tests {
             (b"# c &\nb\nd\n", "1:# c &\nb\n;3:d\n|d;"),
             (b"a&b\n& c\n", "1:a&b\n|a&b;2:& c\n|&|c;"),
             (b"print \"a &\n b\"\n", "1:print \"a &\n b\"\n|print|a  b;"),
+            (b"\t a\"b c\" \r\n", "1:\t a\"b c\" \r\n|a\"b|c\";"),
+            (b"\"a # b\"c#d \"e", "1:\"a # b\"c#d \"e\n|a # b|c;"),
+            (b"\"\" # \"x", "1:\"\" # \"x\n|;"),
         ];
         for (bytes, wanted) in &cases {
             match Script::read(rt.alloc(), bytes) {
                 Ok(script) => {
                     let text = told(rt.alloc(), &script)?;
-                    assert_eq!(rt; text.as_str(), *wanted);
-                }
-                Err(fault) => panic!(rt; "{fault:?} at {wanted}"),
-            }
-        }
-        Ok(())
-    }
-
-    // The physical lines of each logical line, found by its number, with a bar behind them.
-    fn raws(alloc: Global, script: &Script) -> Result<String, AllocError> {
-        let mut text = String::new(alloc);
-        for line in script.lines() {
-            for byte in script.raw(line.number) {
-                text.push(*byte as char)?;
-            }
-            text.push('|')?;
-        }
-        Ok(text)
-    }
-
-    #[test]
-    fn finds_raw_lines(rt: HostRuntime) -> Result<(), Fail> {
-        let cases: [(&[u8], &str); 5] = [
-            (b"", ""),
-            (b"print &\nhello\n", "print &\nhello\n|"),
-            (b"seed 1\n\nrun  2 # two", "seed 1\n|\n|run  2 # two\n|"),
-            (b"a &\nb &\nc\nd &", "a &\nb &\nc\n|d &\n|"),
-            (b"\n\n\na\nb\nc &\n&\n", "\n|\n|\n|a\n|b\n|c &\n&\n|"),
-        ];
-        for (bytes, wanted) in &cases {
-            match Script::read(rt.alloc(), bytes) {
-                Ok(script) => {
-                    let text = raws(rt.alloc(), &script)?;
                     assert_eq!(rt; text.as_str(), *wanted);
                 }
                 Err(fault) => panic!(rt; "{fault:?} at {wanted}"),

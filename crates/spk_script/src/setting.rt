@@ -2,7 +2,7 @@
 
 ghost use Rattle.std.specs.Prelude.{◌≡◌, IfOk};
 ghost use Rattle.spk_script.specs.Machine.{new_state, with_settings};
-ghost use Rattle.spk_script.specs.Standing.{state_of};
+ghost use Rattle.spk_script.specs.MachineStates.{state_of};
 
 use crate::state::MachineState;
 use crate::variable::{Values, Variable};

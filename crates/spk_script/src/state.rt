@@ -3,7 +3,7 @@
 ghost use Rattle.std.specs.Prelude.{◌≡◌};
 ghost use Rattle.spk_script.specs.Machine.{new_state, arrive};
 ghost use Rattle.spk_script.specs.Scripts.{IsScript};
-ghost use Rattle.spk_script.specs.Standing.{state_of, arrived_to};
+ghost use Rattle.spk_script.specs.MachineStates.{state_of, arrived_to};
 
 use crate::fault::LineFault;
 use crate::labelled_script::LabelledScript;

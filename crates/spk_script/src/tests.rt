@@ -3,6 +3,7 @@
 use crate::{Arrival, LineFault, Machine, Script, Setting, Step};
 use spk_num::text::Text;
 use std::alloc::{AllocError, Global};
+use std::process::Abort;
 use std::test::Fail;
 
 /// The most arrivals of a test that tells what comes of each.
@@ -28,7 +29,7 @@ fn fault_text(alloc: Global, fault: &LineFault) -> Result<String, AllocError> {
     }
 }
 
-/// What a line has come to: its words, each with a bar behind it, or a star where the machine obeyed it, or its fault.
+/// What a line has come to: its words, each with a bar after it, or a star where the machine obeyed it, or its fault.
 fn step_text(alloc: Global, step: &Result<Step, LineFault>) -> Result<String, AllocError> {
     match step {
         Ok(Step::Words(line, words)) => {
@@ -58,7 +59,7 @@ fn settings_of(alloc: Global, pairs: &[(&str, &str)]) -> Result<Vec<Setting>, Al
     Ok(settings)
 }
 
-/// What each line of a script comes to, with a semicolon behind it. Behind a fault the machine goes on.
+/// What each line of a script comes to, with a semicolon after it. After a fault the machine goes on.
 fn told(alloc: Global, script: &str, settings: &[(&str, &str)]) -> Result<String, AllocError> {
     let Ok(script) = Script::read(alloc, script.as_bytes()) else {
         return String::from_str(alloc, "no script");
@@ -78,6 +79,15 @@ fn told(alloc: Global, script: &str, settings: &[(&str, &str)]) -> Result<String
     }
     text.push_str("..")?;
     Ok(text)
+}
+
+/// Holds each script against what its lines must come to.
+fn expect_all(rt: &impl Abort, alloc: Global, cases: &[(&str, &str)]) -> Result<(), Fail> {
+    for (script, wanted) in cases {
+        let text = told(alloc, script, &[])?;
+        assert_eq!(rt; text.as_str(), *wanted);
+    }
+    Ok(())
 }
 
 #[test]
@@ -100,15 +110,15 @@ fn goes_line_by_line(rt: HostRuntime) -> Result<(), Fail> {
         ),
         ("variable a string \"$$\"", "(unknown <$>);"),
     ];
-    for (script, wanted) in &cases {
-        let text = told(rt.alloc(), script, &[])?;
-        assert_eq!(rt; text.as_str(), *wanted);
-    }
+    expect_all(&rt, rt.alloc(), &cases)?;
+    let settings = [("a", "größe"), ("b", "2"), ("a", "other")];
+    let text = told(rt.alloc(), "$a $b\nnext a\n$a", &settings)?;
+    assert_eq!(rt; text.as_str(), "1:größe|2|;2*;(unknown <a>);");
     Ok(())
 }
 
 #[test]
-fn steps_variables(rt: HostRuntime) -> Result<(), Fail> {
+fn steps_variables_and_jumps(rt: HostRuntime) -> Result<(), Fail> {
     let cases = [
         (
             "variable i loop 2\nlabel a\n$i\nnext i\njump SELF a\n$i",
@@ -138,17 +148,6 @@ fn steps_variables(rt: HostRuntime) -> Result<(), Fail> {
             "variable a equal 1+1\n$a\nnext a\n$a",
             "1*;2:2|;(not stepped <a>);4:2|;",
         ),
-    ];
-    for (script, wanted) in &cases {
-        let text = told(rt.alloc(), script, &[])?;
-        assert_eq!(rt; text.as_str(), *wanted);
-    }
-    Ok(())
-}
-
-#[test]
-fn jumps_to_the_first_label(rt: HostRuntime) -> Result<(), Fail> {
-    let cases = [
         ("jump SELF a\nx\nlabel a\ny\nlabel a\nz", "1*;4:y|;5*;6:z|;"),
         (
             "jump SELF a b\njump SELF\njump OTHER a\njump SELF a",
@@ -171,11 +170,7 @@ fn jumps_to_the_first_label(rt: HostRuntime) -> Result<(), Fail> {
             "1*;2*;(wrong words);4*;(no label <a>);",
         ),
     ];
-    for (script, wanted) in &cases {
-        let text = told(rt.alloc(), script, &[])?;
-        assert_eq!(rt; text.as_str(), *wanted);
-    }
-    Ok(())
+    expect_all(&rt, rt.alloc(), &cases)
 }
 
 #[test]
@@ -212,19 +207,7 @@ fn names_the_first_fault_of_a_command(rt: HostRuntime) -> Result<(), Fail> {
         ("variable a equal 1000000000000+1\n$a", "1*;(too large);"),
         ("variable $x y", "(unknown <x>);"),
     ];
-    for (script, wanted) in &cases {
-        let text = told(rt.alloc(), script, &[])?;
-        assert_eq!(rt; text.as_str(), *wanted);
-    }
-    Ok(())
-}
-
-#[test]
-fn keeps_the_first_setting(rt: HostRuntime) -> Result<(), Fail> {
-    let settings = [("a", "größe"), ("b", "2"), ("a", "other")];
-    let text = told(rt.alloc(), "$a $b\nnext a\n$a", &settings)?;
-    assert_eq!(rt; text.as_str(), "1:größe|2|;2*;(unknown <a>);");
-    Ok(())
+    expect_all(&rt, rt.alloc(), &cases)
 }
 
 /// How many arrivals a script has before its end or the refusal, and the line of the refusal.

@@ -31,7 +31,7 @@ impl Variable {
     }
 
     /// Goes to the next value, where there is one.
-    pub fn go_on(&mut self) -> bool
+    pub fn advance(&mut self) -> bool
         ensures { MatchBool result (next_variable self.old ≡ Some self.new) ((next_variable self.old ≡ None) × (self.new ≡ self.old)) }
     {
         match self {

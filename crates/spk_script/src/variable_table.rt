@@ -48,7 +48,7 @@ impl VariableTable {
         self.variables.get(name)
     }
 
-    /// Sets the variable with this name, whether there is one or not. Where memory is wanting, all stays as it was.
+    /// Sets the variable with this name, whether there is one or not. When out of memory, all stays as it was.
     pub fn set(&mut self, alloc: Global, name: &str, variable: Variable) -> Result<(), AllocError>
         ensures ok { IfOk result (λ _. environment_of self.new ≡ update bytes_eq (environment_of self.old) name.now (Some variable)) }
         ensures err { OnErr result (environment_of self.new ≡ environment_of self.old) }
@@ -66,7 +66,7 @@ impl VariableTable {
     }
 
     /// Goes to the next value of the variable with this name.
-    pub fn go_on(&mut self, name: &str) -> Stepped
+    pub fn advance(&mut self, name: &str) -> Stepped
         ensures { Goes (environment_of self.old) name.now (environment_of self.new) result }
     {
         let Some(variable) = self.variables.get_mut(name) else {
@@ -74,7 +74,7 @@ impl VariableTable {
         };
         if !variable.has_steps() {
             Stepped::Stays
-        } else if variable.go_on() {
+        } else if variable.advance() {
             Stepped::Next
         } else {
             Stepped::Exhausted

@@ -2,7 +2,8 @@
 
 ghost use Rattle.std.specs.Prelude.{◌≡◌, IfOk};
 ghost use Rattle.spk_num.specs.Decimal.{decimal_text};
-ghost use Rattle.spk_script.specs.Faults.{Answers};
+ghost use Rattle.spk_num.specs.Results.{IsPlainOrMemory};
+ghost use Rattle.spk_script.specs.Faults.{is_memory};
 ghost use Rattle.spk_script.specs.Tables.{environment_of};
 ghost use Rattle.spk_script.specs.Values.{variable_text};
 
@@ -22,13 +23,13 @@ fn number_text(alloc: Global, number: Dec) -> Result<Text, AllocError>
 }
 
 /// The text of the variable with this name. A whole number and the value of a formula are printed as decimals.
-#[tactic(auto, unfolding(crate::specs::Faults::Answers, crate::specs::Values::variable_text))]
+#[tactic(auto, unfolding(spk_num::specs::Results::IsPlainOrMemory, crate::specs::Values::variable_text))]
 pub fn variable_text(
     alloc: Global,
     variables: &VariableTable,
     name: &str,
 ) -> Result<Text, LineFault>
-    ensures { Answers (variable_text (environment_of variables.now) name.now) result }
+    ensures { IsPlainOrMemory is_memory (variable_text (environment_of variables.now) name.now) result }
 {
     match variables.get(name) {
         Some(Variable::Index { value, .. } | Variable::String(value)) => {

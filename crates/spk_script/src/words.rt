@@ -24,7 +24,7 @@ enum Cut<'a> {
     End,
     /// A quoted word that isn't closed.
     Open,
-    /// A word, and what stands behind it.
+    /// A word, and what stands after it.
     Next {
         bytes: &'a [u8],
         quoted: bool,
@@ -54,7 +54,7 @@ fn quote_place(text: &[u8]) -> Option<usize>
     text.iter().position(|byte| *byte == b'"')
 }
 
-/// A text without the blanks in front of it.
+/// A text without the blanks before it.
 fn without_blanks(text: &[u8]) -> &[u8]
     requires { list_all is_allowed text.now ≡ true }
     ensures same { words_of result.now ≡ words_of text.now }
@@ -82,7 +82,7 @@ fn cut_quoted(text: &[u8]) -> Cut<'_>
     }
 }
 
-/// Cuts off a bare word. A comment right behind it stays.
+/// Cuts off a bare word. A comment right after it stays.
 fn cut_bare(text: &[u8]) -> Cut<'_>
     requires begins { BeginsBare text.now }
     requires allowed { list_all is_allowed text.now ≡ true }
@@ -97,7 +97,7 @@ fn cut_bare(text: &[u8]) -> Cut<'_>
 }
 
 /// Cuts off the first word of a text that doesn't begin with a blank.
-fn cut_front(text: &[u8]) -> Cut<'_>
+fn cut_first(text: &[u8]) -> Cut<'_>
     requires begins { BeginsVisibly text.now }
     requires allowed { list_all is_allowed text.now ≡ true }
     ensures { Cuts Blank text.now result }
@@ -117,7 +117,7 @@ fn next_word(text: &[u8]) -> Cut<'_>
     requires { list_all is_allowed text.now ≡ true }
     ensures { Cuts Blank text.now result }
 {
-    cut_front(without_blanks(text))
+    cut_first(without_blanks(text))
 }
 
 /// The words of a line, or none where a quote that begins a word isn't closed.
@@ -141,55 +141,5 @@ pub fn words_of(alloc: Global, text: &[u8]) -> Result<Option<Vec<Word>>, AllocEr
                 left = rest;
             }
         }
-    }
-}
-
-#[cfg(test)]
-mod tests {
-    use super::*;
-    use crate::bytes::is_allowed;
-    use std::test::Fail;
-
-    fn all_allowed(line: &[u8]) -> bool
-        ensures { result ≡ list_all is_allowed line.now }
-    {
-        line.iter().all(|byte| is_allowed(*byte))
-    }
-
-    // The words, each with a mark behind it: a colon where it was quoted, else a semicolon.
-    fn joined(alloc: Global, words: &[Word]) -> Result<String, AllocError> {
-        let mut text = String::new(alloc);
-        for word in words {
-            text.push_str(word.text.as_str())?;
-            text.push(if word.quoted { ':' } else { ';' })?;
-        }
-        Ok(text)
-    }
-
-    #[test]
-    fn cuts_words(rt: HostRuntime) -> Result<(), Fail> {
-        let cases: [(&[u8], Option<&str>); 12] = [
-            (b"print \"a b\" c", Some("print;a b:c;")),
-            (b"a\"b c\"", Some("a\"b;c\";")),
-            (b"\"a\"b", Some("a:b;")),
-            (b"a#b c", Some("a;")),
-            (b"\"a # b\" # c", Some("a # b:")),
-            (b"\"\"", Some(":")),
-            (b"print \"open", None),
-            (b"# \"open", Some("")),
-            (b"x \"", None),
-            (b" \t \r", Some("")),
-            (b"", Some("")),
-            (b"\t a \r", Some("a;")),
-        ];
-        for (line, wanted) in &cases {
-            assert!(rt; all_allowed(line));
-            let text = match words_of(rt.alloc(), line)? {
-                Some(words) => Some(joined(rt.alloc(), &words)?),
-                None => None,
-            };
-            assert_eq!(rt; text.as_deref(), *wanted);
-        }
-        Ok(())
     }
 }

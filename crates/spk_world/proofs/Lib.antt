@@ -1,3 +1,4 @@
+pub mod EffectEquations
 pub mod EffectLaws
 pub mod Events
 pub mod Files

@@ -1,8 +1,9 @@
--- What one call of a world does, as an effect: the whole piece, or a front of it and a fault there.
+-- What one call of a world does, as an effect: the whole piece, or a prefix of it and a fault there.
 use Rattle.std.proofs.Common.{◌≡◌, ◌⊎◌, ℕ, suc, ◌<◌, List, [], ◌∷◌, ◌++◌, length, Option, Some, None, Result, Ok, Err, refl, ap, sym, ◌∙◌, subst, inl, inr, arith}
 use Rattle.std.specs.Option.{option_map}
-use Rattle.spk_world.specs.Outside.{Outside, Event, Place, Screen, File, place_of, after, after_told, added, started, spoken, says, adds, starts, WritesFront}
-use Rattle.spk_world.specs.Causes.{Faults, Later, FileCause, ScreenCause}
+use Rattle.spk_world.specs.Outside.{Outside, Event, Place, Screen, File, place_of, after, after_told, added, started, spoken, says, adds, starts, WritesPrefix}
+use Rattle.spk_world.specs.States.{WorldState}
+use Rattle.spk_world.specs.Causes.{Later, FileCause, ScreenCause}
 use Rattle.spk_world.specs.declared.world.Failed.{Failed}
 use Rattle.spk_world.specs.Effects.{writes, Stop, WriteFailed, EndsAt, BeginsAt, Stands, Wrote}
 use Rattle.spk_world.proofs.EffectLaws.{later_same}
@@ -13,24 +14,24 @@ abbrev AllAt : Place → List Event → Type 0
 AllAt place [] = Unit {0}
 AllAt place (e ∷ es) = (place_of e ≡ place) × AllAt place es
 
-front_at : (place : Place) (written left : List Event) → AllAt place (written ++ left) → AllAt place written
-front_at place [] left all = tt
-front_at place (e ∷ written) left all = (all.0, front_at place written left all.1)
+prefix_at : (place : Place) (written left : List Event) → AllAt place (written ++ left) → AllAt place written
+prefix_at place [] left all = tt
+prefix_at place (e ∷ written) left all = (all.0, prefix_at place written left all.1)
 
 rest_at : (place : Place) (written left : List Event) → AllAt place (written ++ left) → AllAt place left
 rest_at place [] left all = all
 rest_at place (e ∷ written) left all = rest_at place written left all.1
 
 ends_at : (place : Place) (e : Event) (es : List Event) → AllAt place (e ∷ es) → EndsAt place (e ∷ es)
-ends_at place e [] all = record { front = []; last = e; split = refl; at = all.0 }
+ends_at place e [] all = record { prefix = []; last = e; split = refl; at = all.0 }
 ends_at place e (f ∷ es) all =
     let later = ends_at place f es all.1 in
-    record { front = e ∷ later.front; last = later.last; split = ap (λ fs. e ∷ fs) later.split; at = later.at }
+    record { prefix = e ∷ later.prefix; last = later.last; split = ap (λ fs. e ∷ fs) later.split; at = later.at }
 
 -- where events of one place are cut, the cut is there
 cut_at : (place : Place) (written left : List Event) → 0 < length (written ++ left) → AllAt place (written ++ left) → EndsAt place written ⊎ BeginsAt place left
 cut_at place written (e ∷ es) some all = inr (rest_at place written (e ∷ es) all).0
-cut_at place (e ∷ es) [] some all = inl (ends_at place e es (front_at place (e ∷ es) [] all))
+cut_at place (e ∷ es) [] some all = inl (ends_at place e es (prefix_at place (e ∷ es) [] all))
 cut_at place [] [] some all = absurd (omega arith)
 
 whole_by_cases : {E : Type 0} (stop : E → Stop) (before now : Option Outside) (events : List Event) → now ≡ after_told before events → Stands {A = Unit {0}} stop before now (writes events) (Ok tt)
@@ -38,16 +39,16 @@ unfolding after_told writes
 whole_by_cases stop None now events is = is
 whole_by_cases stop (Some outside) now events is = (is, refl)
 
-front_by_cases : {E : Type 0} (stop : E → Stop) (place : Place) (before now : Option Outside) (events : List Event) (e : E) →
-    0 < length events → AllAt place events → stop e ≡ WriteFailed place → WritesFront before now events → Stands stop before now (writes events) (Err e)
+prefix_by_cases : {E : Type 0} (stop : E → Stop) (place : Place) (before now : Option Outside) (events : List Event) (e : E) →
+    0 < length events → AllAt place events → stop e ≡ WriteFailed place → WritesPrefix before now events → Stands stop before now (writes events) (Err e)
 unfolding after_told writes
-front_by_cases stop place None now events e some all is front = front.stands
-front_by_cases stop place (Some outside) now events e some all is front = record {
-  written = front.written;
-  left = front.left;
-  split = front.split;
-  stands = front.stands;
-  cause = rw is (cut_at place front.written front.left (rw (front.split) some) (subst (AllAt place) (sym front.split) all));
+prefix_by_cases stop place None now events e some all is prefix = prefix.stands
+prefix_by_cases stop place (Some outside) now events e some all is prefix = record {
+  written = prefix.written;
+  left = prefix.left;
+  split = prefix.split;
+  stands = prefix.stands;
+  cause = rw is (cut_at place prefix.written prefix.left (rw (prefix.split) some) (subst (AllAt place) (sym prefix.split) all));
 }
 
 says_at : (bytes : List ℕ) → AllAt Screen (says bytes)
@@ -101,58 +102,65 @@ unfolding adds
 no_adds name [] is = refl
 no_adds name (b ∷ bytes) is = absurd (omega arith)
 
-screen_later : {T : Type 0} (before now : Faults) (result : Result T Failed) → ScreenCause before now result → Later before now
-screen_later before now result cause = record { loads = omega arith; files = omega arith; screen = omega arith }
+-- no count falls by a write
+pub screen_later : {T E : Type 0} {before now : WorldState} {result : Result T E} → ScreenCause before now result → Later before.faults now.faults
+screen_later {before = before} {now = now} cause = record { loads = omega (arith, cause.loads); files = omega (arith, cause.files); screen = cause.later }
 
-file_later : {T : Type 0} (before now : Faults) (result : Result T Failed) → FileCause before now result → Later before now
-file_later before now result cause = record { loads = omega arith; files = omega arith; screen = omega arith }
+pub file_later : {T E : Type 0} {before now : WorldState} {result : Result T E} → FileCause before now result → Later before.faults now.faults
+file_later {before = before} {now = now} cause = record { loads = omega (arith, cause.loads); files = cause.later; screen = omega (arith, cause.screen) }
 
 -- a piece is on the screen
-pub wrote_says : {E : Type 0} (stop : E → Stop) (before now : Option Outside) (f0 f1 : Faults) (bytes : List ℕ) →
-    now ≡ option_map (λ outside. spoken outside bytes) before → ScreenCause {T = Unit {0}} {E = Failed} f0 f1 (Ok tt) → Wrote stop before now f0 f1 (writes (says bytes)) (Ok tt)
-wrote_says stop before now f0 f1 bytes is cause =
-    record { stands = whole_by_cases stop before now _ (is ∙ spoken_is before bytes); later = screen_later {T = Unit {0}} _ _ (Ok tt) cause; cause = tt }
+pub wrote_says : {E : Type 0} (stop : E → Stop) (before now : WorldState) (bytes : List ℕ) →
+    now.told ≡ option_map (λ outside. spoken outside bytes) before.told → ScreenCause {T = Unit {0}} {E = Failed} before now (Ok tt) →
+    Wrote stop before now (writes (says bytes)) (Ok tt)
+wrote_says stop before now bytes is cause =
+    record { stands = whole_by_cases stop before.told now.told _ (is ∙ spoken_is before.told bytes); later = screen_later cause; cause = tt }
 
-pub failed_says : {E : Type 0} (stop : E → Stop) (before now : Option Outside) (f0 f1 : Faults) (bytes : List ℕ) (fault : Failed) (e : E) →
-    0 < length bytes → stop e ≡ WriteFailed Screen → WritesFront before now (says bytes) → ScreenCause {T = Unit {0}} f0 f1 (Err fault) → Wrote stop before now f0 f1 (writes (says bytes)) (Err e)
-failed_says stop before now f0 f1 bytes fault e some is front cause = record {
-  stands = front_by_cases stop Screen before now _ e (rw (length-says bytes) some) (says_at bytes) is front;
-  later = screen_later {T = Unit {0}} _ _ (Err fault) cause;
+pub failed_says : {E : Type 0} (stop : E → Stop) (before now : WorldState) (bytes : List ℕ) (fault : Failed) (e : E) →
+    0 < length bytes → stop e ≡ WriteFailed Screen → WritesPrefix before.told now.told (says bytes) → ScreenCause {T = Unit {0}} before now (Err fault) →
+    Wrote stop before now (writes (says bytes)) (Err e)
+failed_says stop before now bytes fault e some is prefix cause = record {
+  stands = prefix_by_cases stop Screen before.told now.told _ e (rw (length-says bytes) some) (says_at bytes) is prefix;
+  later = screen_later cause;
   cause = rw is cause.failed;
 }
 
 -- a piece is in a file
-pub wrote_adds : {E : Type 0} (stop : E → Stop) (before now : Option Outside) (f0 f1 : Faults) (name bytes : List ℕ) → 0 < length bytes →
-    now ≡ option_map (λ outside. added outside name bytes) before → FileCause {T = Unit {0}} {E = Failed} f0 f1 (Ok tt) → Wrote stop before now f0 f1 (writes (adds name bytes)) (Ok tt)
-wrote_adds stop before now f0 f1 name bytes some is cause =
-    record { stands = whole_by_cases stop before now _ (is ∙ added_is before name bytes some); later = file_later {T = Unit {0}} _ _ (Ok tt) cause; cause = tt }
+pub wrote_adds : {E : Type 0} (stop : E → Stop) (before now : WorldState) (name bytes : List ℕ) → 0 < length bytes →
+    now.told ≡ option_map (λ outside. added outside name bytes) before.told → FileCause {T = Unit {0}} {E = Failed} before now (Ok tt) →
+    Wrote stop before now (writes (adds name bytes)) (Ok tt)
+wrote_adds stop before now name bytes some is cause =
+    record { stands = whole_by_cases stop before.told now.told _ (is ∙ added_is before.told name bytes some); later = file_later cause; cause = tt }
 
-pub failed_adds : {E : Type 0} (stop : E → Stop) (before now : Option Outside) (f0 f1 : Faults) (name bytes : List ℕ) (fault : Failed) (e : E) →
-    0 < length bytes → stop e ≡ WriteFailed (File name) → WritesFront before now (adds name bytes) → FileCause {T = Unit {0}} f0 f1 (Err fault) → Wrote stop before now f0 f1 (writes (adds name bytes)) (Err e)
-failed_adds stop before now f0 f1 name bytes fault e some is front cause = record {
-  stands = front_by_cases stop (File name) before now _ e (rw (length-adds name bytes) some) (adds_at name bytes) is front;
-  later = file_later {T = Unit {0}} _ _ (Err fault) cause;
+pub failed_adds : {E : Type 0} (stop : E → Stop) (before now : WorldState) (name bytes : List ℕ) (fault : Failed) (e : E) →
+    0 < length bytes → stop e ≡ WriteFailed (File name) → WritesPrefix before.told now.told (adds name bytes) → FileCause {T = Unit {0}} before now (Err fault) →
+    Wrote stop before now (writes (adds name bytes)) (Err e)
+failed_adds stop before now name bytes fault e some is prefix cause = record {
+  stands = prefix_by_cases stop (File name) before.told now.told _ e (rw (length-adds name bytes) some) (adds_at name bytes) is prefix;
+  later = file_later cause;
   cause = rw is cause.failed;
 }
 
 -- a file has started
-pub wrote_starts : {E : Type 0} (stop : E → Stop) (before now : Option Outside) (f0 f1 : Faults) (name : List ℕ) →
-    now ≡ option_map (λ outside. started outside name) before → FileCause {T = Unit {0}} {E = Failed} f0 f1 (Ok tt) → Wrote stop before now f0 f1 (writes (starts name)) (Ok tt)
-wrote_starts stop before now f0 f1 name is cause =
-    record { stands = whole_by_cases stop before now _ (is ∙ started_is before name); later = file_later {T = Unit {0}} _ _ (Ok tt) cause; cause = tt }
+pub wrote_starts : {E : Type 0} (stop : E → Stop) (before now : WorldState) (name : List ℕ) →
+    now.told ≡ option_map (λ outside. started outside name) before.told → FileCause {T = Unit {0}} {E = Failed} before now (Ok tt) →
+    Wrote stop before now (writes (starts name)) (Ok tt)
+wrote_starts stop before now name is cause =
+    record { stands = whole_by_cases stop before.told now.told _ (is ∙ started_is before.told name); later = file_later cause; cause = tt }
 
-pub failed_starts : {E : Type 0} (stop : E → Stop) (before now : Option Outside) (f0 f1 : Faults) (name : List ℕ) (fault : Failed) (e : E) →
-    stop e ≡ WriteFailed (File name) → WritesFront before now (starts name) → FileCause {T = Unit {0}} f0 f1 (Err fault) → Wrote stop before now f0 f1 (writes (starts name)) (Err e)
+pub failed_starts : {E : Type 0} (stop : E → Stop) (before now : WorldState) (name : List ℕ) (fault : Failed) (e : E) →
+    stop e ≡ WriteFailed (File name) → WritesPrefix before.told now.told (starts name) → FileCause {T = Unit {0}} before now (Err fault) →
+    Wrote stop before now (writes (starts name)) (Err e)
 unfolding starts
-failed_starts stop before now f0 f1 name fault e is front cause = record {
-  stands = front_by_cases stop (File name) before now (starts name) e (omega arith) (refl, tt) is front;
-  later = file_later {T = Unit {0}} _ _ (Err fault) cause;
+failed_starts stop before now name fault e is prefix cause = record {
+  stands = prefix_by_cases stop (File name) before.told now.told (starts name) e (omega arith) (refl, tt) is prefix;
+  later = file_later cause;
   cause = rw is cause.failed;
 }
 
 -- an empty piece is no event
-pub wrote_no_says : {E : Type 0} (stop : E → Stop) (told : Option Outside) (faults : Faults) (bytes : List ℕ) → length bytes ≡ 0 → Wrote stop told told faults faults (writes (says bytes)) (Ok tt)
-wrote_no_says stop told faults bytes is = record { stands = nothing_by_cases stop told _ (no_says bytes is); later = later_same _; cause = tt }
+pub wrote_no_says : {E : Type 0} (stop : E → Stop) (state : WorldState) (bytes : List ℕ) → length bytes ≡ 0 → Wrote stop state state (writes (says bytes)) (Ok tt)
+wrote_no_says stop state bytes is = record { stands = nothing_by_cases stop state.told _ (no_says bytes is); later = later_same _; cause = tt }
 
-pub wrote_no_adds : {E : Type 0} (stop : E → Stop) (told : Option Outside) (faults : Faults) (name bytes : List ℕ) → length bytes ≡ 0 → Wrote stop told told faults faults (writes (adds name bytes)) (Ok tt)
-wrote_no_adds stop told faults name bytes is = record { stands = nothing_by_cases stop told _ (no_adds name bytes is); later = later_same _; cause = tt }
+pub wrote_no_adds : {E : Type 0} (stop : E → Stop) (state : WorldState) (name bytes : List ℕ) → length bytes ≡ 0 → Wrote stop state state (writes (adds name bytes)) (Ok tt)
+wrote_no_adds stop state name bytes is = record { stands = nothing_by_cases stop state.told _ (no_adds name bytes is); later = later_same _; cause = tt }

@@ -1,15 +1,10 @@
--- How often the outside has failed, and that each failure that a call answers has raised its count.
+-- What a load answers, and that each failure that a call answers has raised its count.
 use Rattle.std.specs.Prelude.{◌≡◌, ℕ, ◌+◌, ◌-◌, ◌^◌, ◌≤◌, min, List, length, Option, IfNone, Result, Ok, Err, OnErr, Vec, vec_len, IsSomeAnd, Some, None}
 use Rattle.std.specs.declared.alloc.Global.{Global}
 use Rattle.spk_world.specs.Outside.{Outside}
+use Rattle.spk_world.specs.States.{Faults, WorldState}
 use Rattle.spk_world.specs.declared.world.LoadFault.{LoadFault}
 use Rattle.spk_world.specs.declared.world.LoadFault.TheVariants.{Missing, TooLong, Failed, Memory}
-
--- failures of loads, of writes to files, and of writes to the screen
-pub record Faults : Type 0 where
-  pub loads : ℕ
-  pub files : ℕ
-  pub screen : ℕ
 
 -- a count rose, or stands at its greatest value
 abbrev pub Rose : ℕ → ℕ → Type 0
@@ -22,18 +17,18 @@ pub record Later (before now : Faults) : Type 0 where
   pub screen : before.screen ≤ now.screen
 
 -- A write to a file changes its own count alone, and fails only where that rose.
-pub record FileCause {T E : Type 0} (before now : Faults) (result : Result T E) : Type 0 where
-  pub later : before.files ≤ now.files
-  pub failed : OnErr result (Rose before.files now.files)
-  pub loads : now.loads ≡ before.loads
-  pub screen : now.screen ≡ before.screen
+pub record FileCause {T E : Type 0} (before now : WorldState) (result : Result T E) : Type 0 where
+  pub later : before.faults.files ≤ now.faults.files
+  pub failed : OnErr result (Rose before.faults.files now.faults.files)
+  pub loads : now.faults.loads ≡ before.faults.loads
+  pub screen : now.faults.screen ≡ before.faults.screen
 
 -- the same for the screen
-pub record ScreenCause {T E : Type 0} (before now : Faults) (result : Result T E) : Type 0 where
-  pub later : before.screen ≤ now.screen
-  pub failed : OnErr result (Rose before.screen now.screen)
-  pub loads : now.loads ≡ before.loads
-  pub files : now.files ≡ before.files
+pub record ScreenCause {T E : Type 0} (before now : WorldState) (result : Result T E) : Type 0 where
+  pub later : before.faults.screen ≤ now.faults.screen
+  pub failed : OnErr result (Rose before.faults.screen now.faults.screen)
+  pub loads : now.faults.loads ≡ before.faults.loads
+  pub files : now.faults.files ≡ before.faults.files
 
 -- A load answers what the file is: its bytes, if they are no more than the limit; that it isn't there; or that it is
 -- longer than the limit. It fails only at a file that it could have loaded.
@@ -52,8 +47,9 @@ LoadFails told before now (Err TooLong) = IfNone told (Rose before now)
 LoadFails told before now (Err Failed) = Rose before now
 LoadFails told before now (Err Memory) = Unit {0}
 
-pub record LoadCause (told : Option Outside) (before now : Faults) (result : Result (Vec ℕ Global) LoadFault) : Type 0 where
-  pub later : before.loads ≤ now.loads
-  pub failed : LoadFails told before.loads now.loads result
-  pub files : now.files ≡ before.files
-  pub screen : now.screen ≡ before.screen
+-- A load changes no other count.
+pub record LoadCause (before now : WorldState) (result : Result (Vec ℕ Global) LoadFault) : Type 0 where
+  pub later : before.faults.loads ≤ now.faults.loads
+  pub failed : LoadFails before.told before.faults.loads now.faults.loads result
+  pub files : now.faults.files ≡ before.faults.files
+  pub screen : now.faults.screen ≡ before.faults.screen

@@ -1,8 +1,9 @@
--- What a program is to do outside: a list of events and an answer, which may depend on what it finds there.
--- Beside it, what has been done where it was carried out, or where it was given up on the way.
+-- What a program must do outside: a list of events and an answer, which may depend on what it finds there.
+-- Beside it, what was done where it was carried out, or where it stopped on the way.
 use Rattle.std.specs.Prelude.{◌≡◌, ◌⊎◌, ℕ, ◌+◌, List, [], ◌∷◌, ◌++◌, length, map, Option, Some, None, Result, Ok, Err, IfErr}
 use Rattle.spk_world.specs.Outside.{Outside, Event, Place, Screen, File, place_of, after}
-use Rattle.spk_world.specs.Causes.{Faults, Rose, Later}
+use Rattle.spk_world.specs.States.{Faults, WorldState}
+use Rattle.spk_world.specs.Causes.{Rose, Later}
 
 -- The events of an effect, its loads and its answer. A load is the number of events before it and the file's name.
 pub record Outcome (A : Type 0) : Type 0 where
@@ -13,7 +14,7 @@ pub record Outcome (A : Type 0) : Type 0 where
 abbrev pub Effect : Type 0 → Type 0
 Effect A = Outside → Outcome A
 
--- loads behind so many more events
+-- loads that come after so many more events
 abbrev pub later_loads : ℕ → List (ℕ × List ℕ) → List (ℕ × List ℕ)
 later_loads n loads = map (λ load. (n + load.0, load.1)) loads
 
@@ -46,17 +47,17 @@ writes events outside = record { events = events; loads = []; answer = tt }
 unfoldable pub loads_file : List ℕ → Effect (Option (List ℕ))
 loads_file name outside = record { events = []; loads = (0, name) ∷ []; answer = outside.files name }
 
--- why a call gave up: a load of this file or a write there failed, or memory was wanting
+-- why a call stopped: a load of this file or a write to this place failed, or it was out of memory
 pub data Stop : Type 0 where
   LoadFailed : List ℕ → Stop
   WriteFailed : Place → Stop
-  MemoryWanting : Stop
+  OutOfMemory : Stop
 
 -- the last event changes this place
 pub record EndsAt (place : Place) (events : List Event) : Type 0 where
-  pub front : List Event
+  pub prefix : List Event
   pub last : Event
-  pub split : front ++ (last ∷ []) ≡ events
+  pub split : prefix ++ (last ∷ []) ≡ events
   pub at : place_of last ≡ place
 
 -- the first event changes this place
@@ -67,17 +68,17 @@ BeginsAt place (e ∷ es) = place_of e ≡ place
 -- this is one of the loads
 pub record IsLoad (load : ℕ × List ℕ) (loads : List (ℕ × List ℕ)) : Type 0 where
   pub before : List (ℕ × List ℕ)
-  pub behind : List (ℕ × List ℕ)
-  pub split : before ++ (load ∷ behind) ≡ loads
+  pub rest : List (ℕ × List ℕ)
+  pub split : before ++ (load ∷ rest) ≡ loads
 
 -- A failed load is one that the effect makes right after the events written. A failed write is that of the last of
 -- them or of the next.
 abbrev pub StopsAt : Stop → List Event → List Event → List (ℕ × List ℕ) → Type 0
 StopsAt (LoadFailed name) written left loads = IsLoad (length written, name) loads
 StopsAt (WriteFailed place) written left loads = EndsAt place written ⊎ BeginsAt place left
-StopsAt MemoryWanting written left loads = Unit {0}
+StopsAt OutOfMemory written left loads = Unit {0}
 
--- A front of the events was carried out, and what failed stands where that front ends.
+-- A prefix of the events was carried out, and what failed stands where that prefix ends.
 pub record Stopped {A : Type 0} (outside : Outside) (now : Option Outside) (outcome : Outcome A) (stop : Stop) : Type 0 where
   pub written : List Event
   pub left : List Event
@@ -96,12 +97,12 @@ abbrev pub StopCause : Stop → Faults → Faults → Type 0
 StopCause (LoadFailed name) before now = Rose before.loads now.loads
 StopCause (WriteFailed Screen) before now = Rose before.screen now.screen
 StopCause (WriteFailed (File name)) before now = Rose before.files now.files
-StopCause MemoryWanting before now = Unit {0}
+StopCause OutOfMemory before now = Unit {0}
 
--- An effect was carried out with this result: the whole and its answer on Ok, a front of it on Err. The function says
+-- An effect was carried out with this result: the whole and its answer on Ok, a prefix of it on Err. The function says
 -- why an error stopped it. Where nothing is told before, nothing is told now, and no more is said of it. No count of
 -- faults fell, and a failed load or write that stopped the effect has raised its own.
-pub record Wrote {A E : Type 0} (stop : E → Stop) (before now : Option Outside) (faults : Faults) (faults_now : Faults) (effect : Effect A) (result : Result A E) : Type 0 where
-  pub stands : Stands stop before now effect result
-  pub later : Later faults faults_now
-  pub cause : IfErr result (λ e. StopCause (stop e) faults faults_now)
+pub record Wrote {A E : Type 0} (stop : E → Stop) (before now : WorldState) (effect : Effect A) (result : Result A E) : Type 0 where
+  pub stands : Stands stop before.told now.told effect result
+  pub later : Later before.faults now.faults
+  pub cause : IfErr result (λ e. StopCause (stop e) before.faults now.faults)

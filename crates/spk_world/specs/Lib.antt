@@ -3,3 +3,4 @@ pub mod Effects
 pub mod Host
 pub mod Memory
 pub mod Outside
+pub mod States

@@ -60,8 +60,8 @@ adds name bytes = map (Adds name) bytes
 unfoldable pub starts : List ℕ → List Event
 starts name = Starts name ∷ []
 
--- A front of these events was done, and no more.
-pub record WritesFront (before now : Option Outside) (events : List Event) : Type 0 where
+-- A prefix of these events was done, and no more.
+pub record WritesPrefix (before now : Option Outside) (events : List Event) : Type 0 where
   pub written : List Event
   pub left : List Event
   pub split : written ++ left ≡ events

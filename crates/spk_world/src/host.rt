@@ -1,7 +1,11 @@
 //! The real world: the machine's files and its standard output.
 
-ghost use Rattle.std.specs.Prelude.{◌≡◌, ◌≤◌, IfOk, vec_len, None};
-ghost use Rattle.spk_world.specs.Host.{Gives, Takes};
+ghost use Rattle.std.specs.Prelude.{◌≡◌, ◌≢◌, ◌≤◌, IfSome, IfOk, IfErr, OnOk, OnErr, vec_len};
+ghost use Rattle.std.specs.Option.{option_map};
+ghost use Rattle.std.specs.IoError.{error_kind};
+ghost use Rattle.spk_world.specs.Outside.{added, started, spoken, says, adds, starts, WritesPrefix};
+ghost use Rattle.spk_world.specs.Causes.{FileCause, ScreenCause, LoadCause, Loads};
+ghost use Rattle.spk_world.specs.Host.{fault_of_kind, Gives, Takes};
 
 use crate::memory::raise;
 use crate::{Failed, LoadFault, World};
@@ -12,9 +16,11 @@ use std::rt::Files;
 
 /// Real files and standard output, whose contents are not told.
 ///
-/// It raises the count of a call's kind at each call that answers `Missing`, `TooLong` or `Failed`. A file that isn't
-/// there, also where its folder isn't, is missing; a folder can't be loaded. A load ends at its limit. A write that
-/// takes nothing of a piece that isn't empty has failed.
+/// Each of its three counts is raised by one, up to its last value (2^64 - 1, where it stays), at each call of its
+/// kind that answers `Missing`, `TooLong` or `Failed`, and nowhere else. The other two counts stay.
+///
+/// A file that isn't there, also where its folder isn't, is missing; a folder can't be loaded. A load ends at its
+/// limit. A write that takes nothing of a piece that isn't empty has failed. A write that is interrupted is made again.
 #[derive(Drop)]
 pub struct HostWorld<R> {
     rt: R,
@@ -41,13 +47,18 @@ impl<R> HostWorld<R> {
 
 #[tactic(auto, using(crate::proofs::Untold::told_nothing), unfolding(crate::specs::Outside::after_told))]
 impl<R: Files + Print + Drop> World for HostWorld<R> {
-    ghost use Rattle.spk_world.specs.Host.{host_faults};
+    ghost use Rattle.spk_world.specs.Host.{host_state, host_faults, load_counted, file_counted, screen_counted};
 
-    ghost told = { λ _. None };
+    ghost state = { host_state };
 
-    ghost faults = { host_faults };
+    fn load(&mut self, alloc: Global, name: &str, limit: u64) -> Result<Vec<u8>, LoadFault>
+        ensures content { IfSome (host_state self.old).told (λ outside. Loads (outside.files name.now) limit result) }
+        ensures bound { IfOk result (λ bytes. vec_len bytes ≤ limit) }
+        ensures same { (host_state self.new).told ≡ (host_state self.old).told }
+        ensures cause { LoadCause (host_state self.old) (host_state self.new) result }
 
-    fn load(&mut self, alloc: Global, name: &str, limit: u64) -> Result<Vec<u8>, LoadFault> {
+        ensures counts { host_faults self.new ≡ load_counted (host_faults self.old) result }
+    {
         match load_file(&self.rt, alloc, name, limit) {
             Ok(bytes) => Ok(bytes),
             Err(LoadFault::Memory) => Err(LoadFault::Memory),
@@ -58,7 +69,13 @@ impl<R: Files + Print + Drop> World for HostWorld<R> {
         }
     }
 
-    fn start(&mut self, name: &str) -> Result<(), Failed> {
+    fn start(&mut self, name: &str) -> Result<(), Failed>
+        ensures ok { OnOk result ((host_state self.new).told ≡ option_map (λ outside. started outside name.now) (host_state self.old).told) }
+        ensures err { OnErr result (WritesPrefix (host_state self.old).told (host_state self.new).told (starts name.now)) }
+        ensures cause { FileCause (host_state self.old) (host_state self.new) result }
+
+        ensures counts { host_faults self.new ≡ file_counted (host_faults self.old) result }
+    {
         match fs::create(&self.rt, name) {
             Ok(_) => Ok(()),
             Err(_) => {
@@ -68,20 +85,32 @@ impl<R: Files + Print + Drop> World for HostWorld<R> {
         }
     }
 
-    fn add(&mut self, name: &str, bytes: &[u8]) -> Result<(), Failed> {
+    fn add(&mut self, name: &str, bytes: &[u8]) -> Result<(), Failed>
+        ensures ok { OnOk result ((host_state self.new).told ≡ option_map (λ outside. added outside name.now bytes.now) (host_state self.old).told) }
+        ensures err { OnErr result (WritesPrefix (host_state self.old).told (host_state self.new).told (adds name.now bytes.now)) }
+        ensures cause { FileCause (host_state self.old) (host_state self.new) result }
+
+        ensures counts { host_faults self.new ≡ file_counted (host_faults self.old) result }
+    {
         match add_to_file(&self.rt, name, bytes) {
             Ok(()) => Ok(()),
-            Err(Failed) => {
+            Err(_) => {
                 raise(&mut self.file_faults);
                 Err(Failed)
             }
         }
     }
 
-    fn say(&mut self, bytes: &[u8]) -> Result<(), Failed> {
+    fn say(&mut self, bytes: &[u8]) -> Result<(), Failed>
+        ensures ok { OnOk result ((host_state self.new).told ≡ option_map (λ outside. spoken outside bytes.now) (host_state self.old).told) }
+        ensures err { OnErr result (WritesPrefix (host_state self.old).told (host_state self.new).told (says bytes.now)) }
+        ensures cause { ScreenCause (host_state self.old) (host_state self.new) result }
+
+        ensures counts { host_faults self.new ≡ screen_counted (host_faults self.old) result }
+    {
         match write_whole(&mut io::writer(&self.rt), bytes) {
             Ok(()) => Ok(()),
-            Err(Failed) => {
+            Err(_) => {
                 raise(&mut self.screen_faults);
                 Err(Failed)
             }
@@ -98,13 +127,11 @@ fn load_file<R: Files>(rt: &R, alloc: Global, name: &str, limit: u64) -> Result<
     }
 }
 
-fn add_to_file<R: Files>(rt: &R, name: &str, bytes: &[u8]) -> Result<(), Failed> {
+fn add_to_file<R: Files>(rt: &R, name: &str, bytes: &[u8]) -> io::Result<()> {
     let mut how = OpenOptions::new();
     how.append(true).create(true);
-    match how.open(rt, name) {
-        Ok(mut file) => write_whole(&mut file, bytes),
-        Err(_) => Err(Failed),
-    }
+    let mut file = how.open(rt, name)?;
+    write_whole(&mut file, bytes)
 }
 
 // Reads to the end, and one byte past the limit where there are more.
@@ -121,7 +148,9 @@ fn read_up_to<R: Read + Drop>(from: R, alloc: Global, limit: u64) -> Result<Vec<
 }
 
 // Why a file was not opened.
-fn open_fault(kind: ErrorKind) -> LoadFault {
+fn open_fault(kind: ErrorKind) -> LoadFault
+    ensures { result ≡ fault_of_kind kind }
+{
     match kind {
         ErrorKind::NotFound => LoadFault::Missing,
         ErrorKind::OutOfMemory => LoadFault::Memory,
@@ -129,9 +158,10 @@ fn open_fault(kind: ErrorKind) -> LoadFault {
     }
 }
 
-// Writes all of the bytes. A call that is interrupted is made again.
-fn write_whole<W: Write>(to: &mut W, bytes: &[u8]) -> Result<(), Failed>
-    ensures { Takes (W.contents to.old) (W.contents to.new) bytes.now result }
+// Writes all of the bytes. A write that is interrupted is made again: no such error is answered.
+fn write_whole<W: Write>(to: &mut W, bytes: &[u8]) -> io::Result<()>
+    ensures takes { Takes (W.contents to.old) (W.contents to.new) bytes.now result }
+    ensures again { IfErr result (λ error. error_kind error ≢ ErrorKind.Interrupted) }
 {
     let mut left = bytes;
     for _ in 0..u64::MAX {
@@ -139,19 +169,53 @@ fn write_whole<W: Write>(to: &mut W, bytes: &[u8]) -> Result<(), Failed>
             return Ok(());
         }
         match to.write(left) {
-            Ok(0) => return Err(Failed),
+            Ok(0) => return Err(io::Error::from(ErrorKind::WriteZero)),
             Ok(count) => left = &left[count..],
             Err(error) if error.kind() == ErrorKind::Interrupted => {}
-            Err(_) => return Err(Failed),
+            Err(error) => return Err(error),
         }
     }
-    Err(Failed)
+    Err(io::Error::from(ErrorKind::Other))
 }
 
 #[cfg(test)]
 mod tests {
     use super::*;
     use std::test::Fail;
+
+    // A writer that is interrupted at its first call and at each second one after it, and else takes one byte.
+    #[derive(Drop)]
+    struct Interrupted {
+        calls: u32,
+        taken: Vec<u8>,
+    }
+
+    impl Write for Interrupted {
+        fn write(&mut self, bytes: &[u8]) -> io::Result<usize> {
+            self.calls = self.calls.wrapping_add(1);
+            if self.calls % 2 == 1 || bytes.is_empty() {
+                return Err(io::Error::from(ErrorKind::Interrupted));
+            }
+            self.taken.push(bytes[0])?;
+            Ok(1)
+        }
+
+        fn flush(&mut self) -> io::Result<()> {
+            Ok(())
+        }
+    }
+
+    #[test]
+    fn writes_again_where_interrupted(rt: HostRuntime) -> Result<(), Fail> {
+        let mut writer = Interrupted {
+            calls: 0,
+            taken: Vec::new(rt.alloc()),
+        };
+        write_whole(&mut writer, b"abc")?;
+        assert_eq!(rt; writer.taken.as_slice(), b"abc".as_slice());
+        assert_eq!(rt; writer.calls, 6);
+        Ok(())
+    }
 
     #[test]
     fn real_files(rt: HostRuntime) -> Result<(), Fail> {

@@ -9,5 +9,5 @@ pub use host::HostWorld;
 pub use memory::{Fail, MemWorld};
 pub use world::{Failed, LoadFault, World};
 
-/// Memory is wanting.
+/// Out of memory.
 pub type OutOfMemory = std::alloc::AllocError;

@@ -4,15 +4,15 @@ ghost use Rattle.std.specs.Prelude.{◌≡◌, ◌≢◌, ◌≤◌, ◌⊎◌, 
 ghost use Rattle.std.specs.Option.{option_map};
 ghost use Rattle.std.specs.Map.{update};
 ghost use Rattle.std.specs.Str.{bytes_eq};
-ghost use Rattle.spk_world.specs.Outside.{adds, after, added, started, spoken, says, starts, WritesFront};
+ghost use Rattle.spk_world.specs.Outside.{adds, after, added, started, spoken, says, starts, WritesPrefix};
 ghost use Rattle.spk_world.specs.Causes.{FileCause, ScreenCause, LoadCause, Loads};
-ghost use Rattle.spk_world.specs.Memory.{files_of, front_of, raised, LoadsExactly, StartEnds, AddEnds, SayEnds};
+ghost use Rattle.spk_world.specs.Memory.{files_of, prefix_of, raised, LoadsExactly, StartEnds, AddEnds, SayEnds};
 
 use crate::{Failed, LoadFault, OutOfMemory, World};
 use std::alloc::Global;
 use std::collections::BTreeMap;
 
-/// A call that is to fail.
+/// A call that must fail.
 ///
 /// The call with this number, counted from 1 over all four kinds (load, start, add, say), fails after so many bytes
 /// of its piece. A shorter piece is written whole, and the call fails all the same.
@@ -25,9 +25,9 @@ pub struct Fail {
 /// Files and a screen in memory, which are told.
 ///
 /// A load whose file is missing or too long answers that, whatever `fail_at` says. Otherwise a call fails exactly
-/// where `fail_at` says so, or where it finds no memory for a name or piece that is written. The latter raises
+/// where `fail_at` says so, or where it is out of memory for a name or piece that is written. The latter raises
 /// `starved`, and nothing else does. The count of the call's kind rises at each `Failed` and nowhere else. A load
-/// that finds no memory answers that, and the count stays. A start that fails leaves the file as before.
+/// that is out of memory answers that, and the count stays. A start that fails leaves the file as before.
 ///
 /// The five numbers stay at their last value once they are there.
 #[derive(Drop)]
@@ -62,7 +62,7 @@ impl From<OutOfMemory> for Reason {
 }
 
 impl MemWorld {
-    ghost use Rattle.spk_world.specs.Memory.{outside_of, plan_of, counted, counted_load, counted_reason, with_file, with_file_fault, with_screen_fault, IsNew};
+    ghost use Rattle.spk_world.specs.Memory.{outside_of, plan_of, with_failure_counted, with_load_counted, with_reason_counted, with_file, with_file_fault, with_screen_fault, IsNew};
 
     /// An empty world, whose allocator serves all that is written.
     pub fn new(alloc: Global) -> MemWorld
@@ -90,7 +90,7 @@ impl MemWorld {
         put(&mut self.files, alloc, name, bytes)
     }
 
-    // After how many bytes the call that comes next is to fail.
+    // After how many bytes the call that comes next must fail.
     fn next_call(&mut self) -> Option<u64>
         ensures plan { result ≡ plan_of self.old }
         ensures world { self.new ≡ record self.old { calls = raised self.old.calls } }
@@ -114,7 +114,7 @@ impl MemWorld {
         Ok(())
     }
 
-    // Adds a piece to a file, or the front of it that the plan leaves.
+    // Adds a piece to a file, or the prefix of it that the plan leaves.
     fn add_piece(&mut self, name: &str, bytes: &[u8], plan: Option<u64>) -> Result<(), Reason>
         ensures ends { AddEnds plan (outside_of self.old) (outside_of self.new) name.now bytes.now result }
         ensures rest { self.new ≡ record self.old { files = self.new.files } }
@@ -124,15 +124,15 @@ impl MemWorld {
             append(&mut self.files, alloc, name, bytes)?;
             return Ok(());
         }
-        self.add_front(name, front_of_piece(bytes, plan))?;
+        self.add_prefix(name, prefix_of_piece(bytes, plan))?;
         Err(Reason::Planned)
     }
 
     // Adds bytes to a file. None are added to a file that isn't there without making it.
-    fn add_front(&mut self, name: &str, bytes: &[u8]) -> Result<(), OutOfMemory>
+    fn add_prefix(&mut self, name: &str, bytes: &[u8]) -> Result<(), OutOfMemory>
         ensures ok { OnOk result (outside_of self.new ≡ after (outside_of self.old) (adds name.now bytes.now)) }
         ensures err { OnErr result (outside_of self.new ≡ outside_of self.old) }
-        ensures wants { OnErr result (bytes.now ≢ []) }
+        ensures allocates { OnErr result (bytes.now ≢ []) }
         ensures rest { self.new ≡ record self.old { files = self.new.files } }
     {
         if bytes.is_empty() {
@@ -142,18 +142,18 @@ impl MemWorld {
         append(&mut self.files, alloc, name, bytes)
     }
 
-    // Writes a piece to the screen, or the front of it that the plan leaves.
+    // Writes a piece to the screen, or the prefix of it that the plan leaves.
     fn say_piece(&mut self, bytes: &[u8], plan: Option<u64>) -> Result<(), Reason>
         ensures ends { SayEnds plan (outside_of self.old) (outside_of self.new) bytes.now result }
         ensures rest { self.new ≡ record self.old { said = self.new.said } }
     {
-        self.said.extend_from_slice(front_of_piece(bytes, plan))?;
+        self.said.extend_from_slice(prefix_of_piece(bytes, plan))?;
         as_planned(plan)
     }
 
     fn count_load(&mut self, answer: &Result<Vec<u8>, LoadFault>)
         ensures later { self.old.load_faults ≤ self.new.load_faults }
-        ensures counted { self.new ≡ counted_load self.old answer.now }
+        ensures counted { self.new ≡ with_load_counted self.old answer.now }
     {
         if let Err(LoadFault::Failed) = answer {
             raise(&mut self.load_faults);
@@ -163,7 +163,7 @@ impl MemWorld {
     fn count_file(&mut self, ended: Result<(), Reason>) -> Result<(), Failed>
         ensures same { is_ok result ≡ is_ok ended }
         ensures later { self.old.file_faults ≤ self.new.file_faults }
-        ensures counted { self.new ≡ counted with_file_fault self.old ended }
+        ensures counted { self.new ≡ with_failure_counted with_file_fault self.old ended }
     {
         match ended {
             Ok(()) => Ok(()),
@@ -178,7 +178,7 @@ impl MemWorld {
     fn count_screen(&mut self, ended: Result<(), Reason>) -> Result<(), Failed>
         ensures same { is_ok result ≡ is_ok ended }
         ensures later { self.old.screen_faults ≤ self.new.screen_faults }
-        ensures counted { self.new ≡ counted with_screen_fault self.old ended }
+        ensures counted { self.new ≡ with_failure_counted with_screen_fault self.old ended }
     {
         match ended {
             Ok(()) => Ok(()),
@@ -191,7 +191,7 @@ impl MemWorld {
     }
 
     fn count_starved(&mut self, reason: Reason)
-        ensures { self.new ≡ counted_reason self.old reason }
+        ensures { self.new ≡ with_reason_counted self.old reason }
     {
         if let Reason::Memory = reason {
             raise(&mut self.starved);
@@ -200,17 +200,15 @@ impl MemWorld {
 }
 
 impl World for MemWorld {
-    ghost use Rattle.spk_world.specs.Memory.{outside_of, told_of, faults_of, plan_of, after_load, StartsExactly, AddsExactly, SaysExactly};
+    ghost use Rattle.spk_world.specs.Memory.{outside_of, state_of, plan_of, after_load, StartsExactly, AddsExactly, SaysExactly};
 
-    ghost told = { told_of };
-
-    ghost faults = { faults_of };
+    ghost state = { state_of };
 
     fn load(&mut self, alloc: Global, name: &str, limit: u64) -> Result<Vec<u8>, LoadFault>
-        ensures content { IfSome (told_of self.old) (λ outside. Loads (outside.files name.now) limit result) }
+        ensures content { IfSome (state_of self.old).told (λ outside. Loads (outside.files name.now) limit result) }
         ensures bound { IfOk result (λ bytes. vec_len bytes ≤ limit) }
-        ensures same { told_of self.new ≡ told_of self.old }
-        ensures cause { LoadCause (told_of self.old) (faults_of self.old) (faults_of self.new) result }
+        ensures same { (state_of self.new).told ≡ (state_of self.old).told }
+        ensures cause { LoadCause (state_of self.old) (state_of self.new) result }
 
         ensures answer { LoadsExactly ((outside_of self.old).files name.now) limit (plan_of self.old) result }
         ensures world { self.new ≡ after_load self.old result }
@@ -222,9 +220,9 @@ impl World for MemWorld {
     }
 
     fn start(&mut self, name: &str) -> Result<(), Failed>
-        ensures ok { OnOk result (told_of self.new ≡ option_map (λ outside. started outside name.now) (told_of self.old)) }
-        ensures err { OnErr result (WritesFront (told_of self.old) (told_of self.new) (starts name.now)) }
-        ensures cause { FileCause (faults_of self.old) (faults_of self.new) result }
+        ensures ok { OnOk result ((state_of self.new).told ≡ option_map (λ outside. started outside name.now) (state_of self.old).told) }
+        ensures err { OnErr result (WritesPrefix (state_of self.old).told (state_of self.new).told (starts name.now)) }
+        ensures cause { FileCause (state_of self.old) (state_of self.new) result }
 
         ensures exactly { StartsExactly self.old self.new name.now result }
     {
@@ -234,9 +232,9 @@ impl World for MemWorld {
     }
 
     fn add(&mut self, name: &str, bytes: &[u8]) -> Result<(), Failed>
-        ensures ok { OnOk result (told_of self.new ≡ option_map (λ outside. added outside name.now bytes.now) (told_of self.old)) }
-        ensures err { OnErr result (WritesFront (told_of self.old) (told_of self.new) (adds name.now bytes.now)) }
-        ensures cause { FileCause (faults_of self.old) (faults_of self.new) result }
+        ensures ok { OnOk result ((state_of self.new).told ≡ option_map (λ outside. added outside name.now bytes.now) (state_of self.old).told) }
+        ensures err { OnErr result (WritesPrefix (state_of self.old).told (state_of self.new).told (adds name.now bytes.now)) }
+        ensures cause { FileCause (state_of self.old) (state_of self.new) result }
 
         ensures exactly { AddsExactly self.old self.new name.now bytes.now result }
     {
@@ -246,9 +244,9 @@ impl World for MemWorld {
     }
 
     fn say(&mut self, bytes: &[u8]) -> Result<(), Failed>
-        ensures ok { OnOk result (told_of self.new ≡ option_map (λ outside. spoken outside bytes.now) (told_of self.old)) }
-        ensures err { OnErr result (WritesFront (told_of self.old) (told_of self.new) (says bytes.now)) }
-        ensures cause { ScreenCause (faults_of self.old) (faults_of self.new) result }
+        ensures ok { OnOk result ((state_of self.new).told ≡ option_map (λ outside. spoken outside bytes.now) (state_of self.old).told) }
+        ensures err { OnErr result (WritesPrefix (state_of self.old).told (state_of self.new).told (says bytes.now)) }
+        ensures cause { ScreenCause (state_of self.old) (state_of self.new) result }
 
         ensures exactly { SaysExactly self.old self.new bytes.now result }
     {
@@ -316,7 +314,7 @@ fn empty(
 ) -> Result<(), OutOfMemory>
     ensures ok { OnOk result (files_of files.new ≡ update bytes_eq (files_of files.old) name.now (Some [])) }
     ensures err { OnErr result (files_of files.new ≡ files_of files.old) }
-    ensures wants { OnErr result (files_of files.old name.now ≡ None) }
+    ensures allocates { OnErr result (files_of files.old name.now ≡ None) }
 {
     if let Some(file) = files.get_mut(name) {
         file.clear();
@@ -334,7 +332,7 @@ fn append(
 ) -> Result<(), OutOfMemory>
     ensures ok { OnOk result (files_of files.new ≡ update bytes_eq (files_of files.old) name.now (Some (unwrap_or (files_of files.old name.now) [] ++ bytes.now))) }
     ensures err { OnErr result (files_of files.new ≡ files_of files.old) }
-    ensures wants { OnErr result ((bytes.now ≢ []) ⊎ (files_of files.old name.now ≡ None)) }
+    ensures allocates { OnErr result ((bytes.now ≢ []) ⊎ (files_of files.old name.now ≡ None)) }
 {
     if let Some(file) = files.get_mut(name) {
         return file.extend_from_slice(bytes);
@@ -342,9 +340,9 @@ fn append(
     put(files, alloc, name, bytes)
 }
 
-// As many bytes from the front as there are, and no more than the plan leaves.
-fn front_of_piece(bytes: &[u8], plan: Option<u64>) -> &[u8]
-    ensures { result.now ≡ front_of plan bytes.now }
+// The prefix of a piece that the plan leaves.
+fn prefix_of_piece(bytes: &[u8], plan: Option<u64>) -> &[u8]
+    ensures { result.now ≡ prefix_of plan bytes.now }
 {
     match plan {
         Some(left) if left < bytes.len() as u64 => &bytes[..left as usize],

@@ -1,13 +1,14 @@
 //! The trait by which the simulator reaches files and the screen.
 
-ghost use Rattle.std.specs.Prelude.{◌≡◌, ◌≤◌, IfSome, IfOk, OnOk, OnErr, Option, vec_len};
+ghost use Rattle.std.specs.Prelude.{◌≡◌, ◌≤◌, IfSome, IfOk, OnOk, OnErr, vec_len};
 ghost use Rattle.std.specs.Option.{option_map};
-ghost use Rattle.spk_world.specs.Outside.{Outside, added, started, spoken, says, adds, starts, WritesFront};
-ghost use Rattle.spk_world.specs.Causes.{Faults, FileCause, ScreenCause, LoadCause, Loads};
+ghost use Rattle.spk_world.specs.Outside.{added, started, spoken, says, adds, starts, WritesPrefix};
+ghost use Rattle.spk_world.specs.States.{WorldState};
+ghost use Rattle.spk_world.specs.Causes.{FileCause, ScreenCause, LoadCause, Loads};
 
 use std::alloc::Global;
 
-/// A write failed: the file, or the screen, took a front of it, or none.
+/// A write failed: the file, or the screen, took a prefix of it, or none.
 #[derive(Clone, Copy, Debug, PartialEq, Eq)]
 pub struct Failed;
 
@@ -20,7 +21,7 @@ pub enum LoadFault {
     TooLong,
     /// Reading failed.
     Failed,
-    /// Memory is wanting.
+    /// Out of memory.
     Memory,
 }
 
@@ -29,34 +30,32 @@ pub enum LoadFault {
 /// It counts how often loads, writes to files and writes to the screen have failed. No count falls. One that
 /// has a last value stays there.
 pub trait World {
-    /// Files and screen, where the world tells them.
-    ghost told: { Self → Option Outside };
-
-    /// How often each kind of call has failed.
-    ghost faults: { Self → Faults };
+    /// How things stand outside: files and screen, where the world tells them, and how often each kind of call has
+    /// failed.
+    ghost state: { Self → WorldState };
 
     /// All bytes of a file, where there are at most `limit`.
     fn load(&mut self, alloc: Global, name: &str, limit: u64) -> Result<Vec<u8>, LoadFault>
-        ensures content { IfSome (told self.old) (λ outside. Loads (outside.files name.now) limit result) }
+        ensures content { IfSome (state self.old).told (λ outside. Loads (outside.files name.now) limit result) }
         ensures bound { IfOk result (λ bytes. vec_len bytes ≤ limit) }
-        ensures same { told self.new ≡ told self.old }
-        ensures cause { LoadCause (told self.old) (faults self.old) (faults self.new) result };
+        ensures same { (state self.new).told ≡ (state self.old).told }
+        ensures cause { LoadCause (state self.old) (state self.new) result };
 
     /// Makes a file empty, also one that isn't there.
     fn start(&mut self, name: &str) -> Result<(), Failed>
-        ensures ok { OnOk result (told self.new ≡ option_map (λ outside. started outside name.now) (told self.old)) }
-        ensures err { OnErr result (WritesFront (told self.old) (told self.new) (starts name.now)) }
-        ensures cause { FileCause (faults self.old) (faults self.new) result };
+        ensures ok { OnOk result ((state self.new).told ≡ option_map (λ outside. started outside name.now) (state self.old).told) }
+        ensures err { OnErr result (WritesPrefix (state self.old).told (state self.new).told (starts name.now)) }
+        ensures cause { FileCause (state self.old) (state self.new) result };
 
     /// Adds bytes to a file, which is made where it isn't there.
     fn add(&mut self, name: &str, bytes: &[u8]) -> Result<(), Failed>
-        ensures ok { OnOk result (told self.new ≡ option_map (λ outside. added outside name.now bytes.now) (told self.old)) }
-        ensures err { OnErr result (WritesFront (told self.old) (told self.new) (adds name.now bytes.now)) }
-        ensures cause { FileCause (faults self.old) (faults self.new) result };
+        ensures ok { OnOk result ((state self.new).told ≡ option_map (λ outside. added outside name.now bytes.now) (state self.old).told) }
+        ensures err { OnErr result (WritesPrefix (state self.old).told (state self.new).told (adds name.now bytes.now)) }
+        ensures cause { FileCause (state self.old) (state self.new) result };
 
     /// Writes bytes to the screen.
     fn say(&mut self, bytes: &[u8]) -> Result<(), Failed>
-        ensures ok { OnOk result (told self.new ≡ option_map (λ outside. spoken outside bytes.now) (told self.old)) }
-        ensures err { OnErr result (WritesFront (told self.old) (told self.new) (says bytes.now)) }
-        ensures cause { ScreenCause (faults self.old) (faults self.new) result };
+        ensures ok { OnOk result ((state self.new).told ≡ option_map (λ outside. spoken outside bytes.now) (state self.old).told) }
+        ensures err { OnErr result (WritesPrefix (state self.old).told (state self.new).told (says bytes.now)) }
+        ensures cause { ScreenCause (state self.old) (state self.new) result };
 }

@@ -3,57 +3,57 @@
 ghost use Rattle.std.specs.Prelude.{◌≡◌, ◌<◌, ◌≤◌, ◌^◌, ◌+◌, Ok, Err, false, length, IfOk, MatchResult};
 ghost use Rattle.spk_script.specs.Faults.{is_memory};
 ghost use Rattle.spk_script.specs.Formulas.{begins_blank, ends_blank};
-ghost use Rattle.spk_script.specs.Forms.{parts_formed, passed_before, passed_behind, passed, depth_of, fault_at_end, form_fault};
+ghost use Rattle.spk_script.specs.Forms.{parts_formed, passed_before, passed_after, passed, depth_of, fault_at_end, form_fault};
 
 use super::part::{Operator, Part, Token, parts_of};
 use crate::bytes::is_blank;
 use crate::fault::LineFault;
 use std::alloc::Global;
 
-/// Where a formula stands between two of its parts, inside so many open parentheses.
+/// The state of a formula between two of its parts, inside so many open parentheses.
 #[derive(Clone, Copy)]
-enum Standing {
+enum FormState {
     /// An operand has to come.
     BeforeOperand(usize),
     /// An operator, a closing parenthesis or the end has to come.
-    BehindOperand(usize),
+    AfterOperand(usize),
 }
 
-/// How it stands behind a part that an operand has to begin with.
-fn pass_before(depth: usize, part: &Part) -> Result<Standing, u32>
+/// The state after a part that an operand has to begin with.
+fn pass_before(depth: usize, part: &Part) -> Result<FormState, u32>
     requires { depth < 2 ^ 63 }
     ensures { result ≡ passed_before depth part.now.place part.now.token }
 {
     match &part.token {
-        Token::Number(_) | Token::Name(_) => Ok(Standing::BehindOperand(depth)),
-        Token::Open => Ok(Standing::BeforeOperand(depth + 1)),
-        Token::Sign(Operator::Minus) => Ok(Standing::BeforeOperand(depth)),
+        Token::Number(_) | Token::Name(_) => Ok(FormState::AfterOperand(depth)),
+        Token::Open => Ok(FormState::BeforeOperand(depth + 1)),
+        Token::Sign(Operator::Minus) => Ok(FormState::BeforeOperand(depth)),
         Token::Broken(place) => Err(*place),
         _ => Err(part.place),
     }
 }
 
-/// How it stands behind a part that comes behind an operand.
-fn pass_behind(depth: usize, part: &Part) -> Result<Standing, u32>
-    ensures { result ≡ passed_behind depth part.now.place part.now.token }
+/// The state after a part that comes after an operand.
+fn pass_after(depth: usize, part: &Part) -> Result<FormState, u32>
+    ensures { result ≡ passed_after depth part.now.place part.now.token }
 {
     match &part.token {
-        Token::Sign(_) => Ok(Standing::BeforeOperand(depth)),
-        Token::Close if depth > 0 => Ok(Standing::BehindOperand(depth - 1)),
+        Token::Sign(_) => Ok(FormState::BeforeOperand(depth)),
+        Token::Close if depth > 0 => Ok(FormState::AfterOperand(depth - 1)),
         _ => Err(part.place),
     }
 }
 
-impl Standing {
-    /// How it stands behind one part more, or the place of the fault.
-    fn pass(self, part: &Part) -> Result<Standing, u32>
+impl FormState {
+    /// The state after one part more, or the place of the fault.
+    fn pass(self, part: &Part) -> Result<FormState, u32>
         requires { depth_of self < 2 ^ 63 }
         ensures passed { result ≡ passed self part.now.place part.now.token }
         ensures depth { IfOk result (λ next. depth_of next ≤ depth_of self + 1) }
     {
         match self {
-            Standing::BeforeOperand(depth) => pass_before(depth, part),
-            Standing::BehindOperand(depth) => pass_behind(depth, part),
+            FormState::BeforeOperand(depth) => pass_before(depth, part),
+            FormState::AfterOperand(depth) => pass_after(depth, part),
         }
     }
 
@@ -63,7 +63,7 @@ impl Standing {
         ensures { result ≡ fault_at_end text.now self }
     {
         match self {
-            Standing::BehindOperand(0) if !ends_blank(text) => None,
+            FormState::AfterOperand(0) if !ends_blank(text) => None,
             _ => Some(text.len() as u32),
         }
     }
@@ -89,14 +89,14 @@ fn form_fault(text: &[u8], parts: &[Part]) -> Option<u32>
     if begins_blank(text) {
         return Some(0);
     }
-    let mut standing = Standing::BeforeOperand(0);
+    let mut state = FormState::BeforeOperand(0);
     for part in parts {
-        match standing.pass(part) {
-            Ok(next) => standing = next,
+        match state.pass(part) {
+            Ok(next) => state = next,
             Err(place) => return Some(place),
         }
     }
-    standing.fault_at_end(text)
+    state.fault_at_end(text)
 }
 
 /// The parts of a text that is a formula. Its form is judged whole.

@@ -93,7 +93,7 @@ fn number_of(place: u32, run: &[u8]) -> Token
     }
 }
 
-/// What a run of letters, digits and `_` behind `v_` is.
+/// What a run of letters, digits and `_` after `v_` is.
 fn name_of(alloc: Global, place: u32, name: &[u8]) -> Result<Token, AllocError>
     requires ascii { IsAscii name.now }
     requires room { place ≤ 4097 }
@@ -108,13 +108,13 @@ fn name_of(alloc: Global, place: u32, name: &[u8]) -> Result<Token, AllocError>
     Ok(Token::Name(Text::from_ascii(alloc, name)?))
 }
 
-/// What begins with a `v`, by the text behind it.
+/// What begins with a `v`, by the text after it.
 fn variable_of(alloc: Global, place: u32, text: &[u8]) -> Result<Token, AllocError>
     requires { place ≤ 4096 }
     ensures { IfOk result (λ token. token ≡ variable_of place text.now) }
 {
     match text {
-        [b'_', behind @ ..] => name_of(alloc, place + 1, name_run(behind)),
+        [b'_', following @ ..] => name_of(alloc, place + 1, name_run(following)),
         _ => Ok(Token::Broken(place)),
     }
 }
@@ -139,13 +139,13 @@ fn token_at(alloc: Global, place: u32, text: &[u8]) -> Result<Token, AllocError>
     requires { place < 4096 }
     ensures { IfOk result (λ token. token ≡ token_at place text.now) }
 {
-    let Some((first, behind)) = text.split_first() else {
+    let Some((first, following)) = text.split_first() else {
         return Ok(Token::Broken(place));
     };
     if is_number_byte(*first) {
         Ok(number_of(place, number_run(text)))
     } else if *first == b'v' {
-        variable_of(alloc, place + 1, behind)
+        variable_of(alloc, place + 1, following)
     } else {
         Ok(mark_of(place, *first))
     }
@@ -156,13 +156,13 @@ fn length_at(text: &[u8]) -> usize
     ensures same { result ≡ length_at text.now }
     ensures within { result ≤ length text.now }
 {
-    let Some((first, behind)) = text.split_first() else {
+    let Some((first, following)) = text.split_first() else {
         return 0;
     };
     if is_number_byte(*first) {
-        number_length(behind) + 1
+        number_length(following) + 1
     } else if *first == b'v' {
-        name_length(behind) + 1
+        name_length(following) + 1
     } else {
         1
     }
@@ -187,52 +187,4 @@ pub fn parts_of(alloc: Global, text: &[u8]) -> Result<Vec<Part>, AllocError>
         }
     }
     Ok(parts)
-}
-
-#[cfg(test)]
-mod tests {
-    use super::*;
-    use std::test::Fail;
-
-    // The parts, each with its place.
-    fn joined(alloc: Global, parts: &[Part]) -> Result<String, AllocError> {
-        let mut text = String::new(alloc);
-        for part in parts {
-            let place = part.place;
-            let told = match &part.token {
-                Token::Number(number) => format!(in alloc; "{place}={};", number.millionths)?,
-                Token::Name(name) => format!(in alloc; "{place}={};", name.as_str())?,
-                Token::Broken(at) => format!(in alloc; "{place}!{at};")?,
-                Token::Sign(operator) => format!(in alloc; "{place}={operator:?};")?,
-                Token::Open => format!(in alloc; "{place}=Open;")?,
-                Token::Close => format!(in alloc; "{place}=Close;")?,
-            };
-            text.push_str(told.as_str())?;
-        }
-        Ok(text)
-    }
-
-    #[test]
-    fn cuts_parts(rt: HostRuntime) -> Result<(), Fail> {
-        let cases: [(&[u8], &str); 8] = [
-            (b"", ""),
-            (b" \t\r", ""),
-            (b"1.5 + v_x", "0=1500000;4=Plus;6=x;"),
-            (
-                b"-(2*v_a1_B)/.5",
-                "0=Minus;1=Open;2=2000000;3=Times;4=a1_B;10=Close;11=Over;12=500000;",
-            ),
-            (b"12v_a", "0=12000000;2=a;"),
-            (b"1..2 $ vx v_", "0!0;5!5;7!8;10!12;"),
-            (b"vv_a", "0!1;"),
-            (b"v_123456789012345678901234567890123*", "0!34;35=Times;"),
-        ];
-        for (text, wanted) in &cases {
-            assert!(rt; text.len() <= 4096);
-            let parts = parts_of(rt.alloc(), text)?;
-            let told = joined(rt.alloc(), &parts)?;
-            assert_eq!(rt; told.as_str(), *wanted);
-        }
-        Ok(())
-    }
 }

@@ -1,8 +1,9 @@
 //! How far the evaluation of a formula has come.
 
 ghost use Rattle.std.specs.Prelude.{◌≡◌, ◌≤◌};
-ghost use Rattle.spk_script.specs.Faults.{Answers};
-ghost use Rattle.spk_script.specs.Evaluation.{started, opened, counted, reckoned_on, is_product_sign, closed, behind_by, behind, finished};
+ghost use Rattle.spk_num.specs.Results.{IsPlainOrMemory};
+ghost use Rattle.spk_script.specs.Faults.{is_memory};
+ghost use Rattle.spk_script.specs.Evaluation.{started, opened, counted, evaluated_on, is_product_sign, closed, after_operand_by, after_operand, finished};
 
 use super::amount::Amount;
 use super::part::{Part, Token};
@@ -17,27 +18,30 @@ pub const MOST_DEPTH: usize = 100;
 /// A formula has no more than this many numbers and names.
 pub const MOST_NUMBERS: u32 = 1000;
 
-/// The value of a formula, and how many numbers and names were met up to it.
+/// The value of a formula, and how many numbers and names have been read up to it.
 #[derive(Debug, Drop)]
-pub struct Reckoned {
+pub struct Evaluated {
     value: Amount,
-    met: u32,
+    operand_count: u32,
 }
 
-impl Model for Reckoned {
-    ghost use Rattle.spk_script.specs.Values.{Reckoned as ReckonedValue};
+impl Model for Evaluated {
+    ghost use Rattle.spk_script.specs.Values.{Evaluated as ReckonedValue};
 
     ghost Value = { ReckonedValue };
 
-    ghost view = { λ r. record { value = r.value; met = r.met } };
+    ghost view = { λ r. record { value = r.value; operand_count = r.operand_count } };
 }
 
-impl Reckoned {
-    /// This value, behind so many numbers and names.
-    pub fn new(value: Amount, met: u32) -> Reckoned
-        ensures { result ≡ record { value = value; met = met } }
+impl Evaluated {
+    /// This value, after so many numbers and names.
+    pub fn new(value: Amount, operand_count: u32) -> Evaluated
+        ensures { result ≡ record { value = value; operand_count = operand_count } }
     {
-        Reckoned { value, met }
+        Evaluated {
+            value,
+            operand_count,
+        }
     }
 
     /// The value.
@@ -48,32 +52,32 @@ impl Reckoned {
     }
 }
 
-/// What stands open, how many numbers and names were met, and the number that was read last.
+/// What stands open, how many numbers and names have been read, and the number that was read last.
 #[derive(Debug, Drop)]
 pub struct Progress {
     pub stack: Stack,
-    pub met: u32,
+    pub operand_count: u32,
     /// With none, a number is wanted next.
     pub value: Option<Amount>,
 }
 
 impl Progress {
-    /// Nothing has been read yet, behind so many numbers and names.
-    pub fn new(alloc: Global, met: u32) -> Progress
-        ensures { result ≡ started met }
+    /// Nothing has been read yet, after so many numbers and names.
+    pub fn new(alloc: Global, operand_count: u32) -> Progress
+        ensures { result ≡ started operand_count }
     {
         Progress {
             stack: Stack::new(alloc),
-            met,
+            operand_count,
             value: None,
         }
     }
 
     /// Opens a minus or a parenthesis.
-    #[tactic(auto, unfolding(crate::specs::Faults::Answers))]
+    #[tactic(auto, unfolding(spk_num::specs::Results::IsPlainOrMemory))]
     pub fn opened(mut self, depth: usize, place: u32, frame: Frame) -> Result<Progress, LineFault>
         requires { depth ≤ 100 }
-        ensures { Answers (opened depth place self frame) result }
+        ensures { IsPlainOrMemory is_memory (opened depth place self frame) result }
     {
         if self.stack.depth() >= MOST_DEPTH - depth {
             return Err(LineFault::BadFormula(place));
@@ -86,26 +90,26 @@ impl Progress {
     pub fn counted(mut self, place: u32, number: Amount) -> Result<Progress, LineFault>
         ensures { result ≡ counted place self number }
     {
-        if self.met >= MOST_NUMBERS {
+        if self.operand_count >= MOST_NUMBERS {
             return Err(LineFault::BadFormula(place));
         }
-        self.met += 1;
+        self.operand_count += 1;
         self.value = Some(number);
         Ok(self)
     }
 
     /// Takes the value of a name.
-    pub fn reckoned_on(mut self, reckoned: Reckoned) -> Progress
-        ensures { result ≡ reckoned_on self reckoned }
+    pub fn evaluated_on(mut self, evaluated: Evaluated) -> Progress
+        ensures { result ≡ evaluated_on self evaluated }
     {
-        self.met = reckoned.met;
-        self.value = Some(reckoned.value);
+        self.operand_count = evaluated.operand_count;
+        self.value = Some(evaluated.value);
         self
     }
 
     /// Closes the parenthesis that was opened last, where nothing else stands open in it.
     fn closed(mut self, place: u32, value: Amount) -> Result<Progress, LineFault>
-        ensures { result ≡ closed place self.met value self.stack }
+        ensures { result ≡ closed place self.operand_count value self.stack }
     {
         match self.stack.pop() {
             Some(Frame::Parenthesis) => {
@@ -116,10 +120,10 @@ impl Progress {
         }
     }
 
-    /// Takes a part behind a number, when what the number finishes is gone.
-    #[tactic(auto, unfolding(crate::specs::Faults::Answers))]
-    fn behind_settled(mut self, value: Amount, part: &Part) -> Result<Progress, LineFault>
-        ensures { Answers (behind_by part.now.place self.met part.now.token self.stack value) result }
+    /// Takes a part after a number, when what the number finishes is gone.
+    #[tactic(auto, unfolding(spk_num::specs::Results::IsPlainOrMemory))]
+    fn after_settled(mut self, value: Amount, part: &Part) -> Result<Progress, LineFault>
+        ensures { IsPlainOrMemory is_memory (after_operand_by part.now.place self.operand_count part.now.token self.stack value) result }
     {
         match &part.token {
             Token::Sign(operator) => {
@@ -135,24 +139,24 @@ impl Progress {
         }
     }
 
-    /// Takes a part behind a number.
-    pub fn behind(mut self, value: Amount, part: &Part) -> Result<Progress, LineFault>
-        ensures { Answers (behind part.now.place self value part.now.token) result }
+    /// Takes a part after a number.
+    pub fn after_operand(mut self, value: Amount, part: &Part) -> Result<Progress, LineFault>
+        ensures { IsPlainOrMemory is_memory (after_operand part.now.place self value part.now.token) result }
     {
         let before_product = is_product_sign(&part.token);
         let value = self.stack.settle(before_product, value)?;
-        self.behind_settled(value, part)
+        self.after_settled(value, part)
     }
 
-    /// What has come of all parts. Those of a formula end behind a number.
-    pub fn finished(mut self) -> Result<Reckoned, LineFault>
+    /// What has come of all parts. Those of a formula end after a number.
+    pub fn finished(mut self) -> Result<Evaluated, LineFault>
         ensures { result ≡ finished self }
     {
         let Some(value) = self.value else {
             return Err(LineFault::BadFormula(0));
         };
         let value = self.stack.settle(false, value)?;
-        Ok(Reckoned::new(value, self.met))
+        Ok(Evaluated::new(value, self.operand_count))
     }
 }
 

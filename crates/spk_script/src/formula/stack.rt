@@ -2,7 +2,7 @@
 
 ghost use Rattle.std.specs.Prelude.{◌≡◌, [], ◌∷◌, ◌++◌, IfOk, MatchResult, if◌then◌else◌};
 ghost use Rattle.std.specs.Option.{option_to_list};
-ghost use Rattle.spk_script.specs.Frames.{nests, depth_of, is_finished, applied, settled, first_frame, finished_front};
+ghost use Rattle.spk_script.specs.Frames.{nests, depth_of, is_finished, applied, settled, first_frame, finished_first};
 ghost use Rattle.spk_script.specs.Formulas.{is_product};
 
 use super::amount::Amount;
@@ -78,7 +78,7 @@ impl Model for Stack {
 }
 
 impl Stack {
-    /// Nothing.
+    /// No frame.
     pub fn new(alloc: Global) -> Stack
         ensures { result ≡ [] }
     {
@@ -109,7 +109,7 @@ impl Stack {
     /// Takes what was opened last.
     #[tactic(auto, using(crate::proofs::Frames::last_taken))]
     pub fn pop(&mut self) -> Option<Frame>
-        ensures front { result ≡ first_frame self.old }
+        ensures first { result ≡ first_frame self.old }
         ensures rest { self.old ≡ option_to_list result ++ self.new }
     {
         let frame = self.frames.pop()?;
@@ -119,7 +119,7 @@ impl Stack {
 
     /// Takes what was opened last, where a number finishes it.
     fn pop_finished(&mut self, before_product: bool) -> Option<Frame>
-        ensures front { result ≡ finished_front before_product self.old }
+        ensures first { result ≡ finished_first before_product self.old }
         ensures rest { self.old ≡ option_to_list result ++ self.new }
     {
         let frame = *self.frames.last()?;

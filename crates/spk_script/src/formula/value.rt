@@ -3,16 +3,17 @@
 ghost use Rattle.std.specs.Prelude.{◌≡◌, ◌≤◌};
 ghost use Rattle.std.specs.List.{All};
 ghost use Rattle.spk_num.specs.Decimal.{millionths_of};
-ghost use Rattle.spk_script.specs.Faults.{Answers};
+ghost use Rattle.spk_num.specs.Results.{IsPlainOrMemory};
+ghost use Rattle.spk_script.specs.Faults.{is_memory};
 ghost use Rattle.spk_script.specs.Formulas.{formula_of};
 ghost use Rattle.spk_script.specs.Tables.{environment_of};
-ghost use Rattle.spk_script.specs.Values.{blamed, decimal_of, value_of_read};
+ghost use Rattle.spk_script.specs.Values.{at_reference, decimal_of, value_of_read};
 ghost use Rattle.spk_script.specs.Evaluation.{IsSmall, naming_of, started, named, opened_by, operand_by, step, run};
 
 use super::amount::Amount;
 use super::form::formed_parts;
 use super::part::{Operator, Part, Token};
-use super::progress::{MOST_DEPTH, MOST_NUMBERS, Progress, Reckoned};
+use super::progress::{Evaluated, MOST_DEPTH, MOST_NUMBERS, Progress};
 use super::stack::Frame;
 use crate::fault::LineFault;
 use crate::variable::{FormulaText, Variable};
@@ -21,20 +22,20 @@ use spk_num::decimal::Dec;
 use spk_num::text::Text;
 use std::alloc::Global;
 
-/// The value of a text as a formula, inside so many others and behind so many numbers and names.
+/// The value of a text as a formula, at this depth and after so many numbers and names.
 #[cycle(value)]
 pub fn value_of_text(
     alloc: Global,
     variables: &VariableTable,
     depth: usize,
-    met: u32,
+    operand_count: u32,
     text: &FormulaText,
-) -> Result<Reckoned, LineFault>
+) -> Result<Evaluated, LineFault>
     requires { depth ≤ 100 }
-    ensures { Answers (value_of_read (naming_of (environment_of variables.now)) depth met (formula_of text.now)) result }
+    ensures { IsPlainOrMemory is_memory (value_of_read (naming_of (environment_of variables.now)) depth operand_count (formula_of text.now)) result }
 {
     let parts = formed_parts(alloc, text.as_bytes())?;
-    value_of_parts(alloc, variables, depth, met, &parts)
+    value_of_parts(alloc, variables, depth, operand_count, &parts)
 }
 
 /// What comes of the parts of a formula.
@@ -43,14 +44,14 @@ fn value_of_parts(
     alloc: Global,
     variables: &VariableTable,
     depth: usize,
-    met: u32,
+    operand_count: u32,
     parts: &[Part],
-) -> Result<Reckoned, LineFault>
+) -> Result<Evaluated, LineFault>
     requires depth { depth ≤ 100 }
     requires small { All (λ part. IsSmall part.token) parts.now }
-    ensures { Answers (run (naming_of (environment_of variables.now)) depth (started met) parts.now) result }
+    ensures { IsPlainOrMemory is_memory (run (naming_of (environment_of variables.now)) depth (started operand_count) parts.now) result }
 {
-    let mut progress = Progress::new(alloc, met);
+    let mut progress = Progress::new(alloc, operand_count);
     for part in parts {
         progress = step(alloc, variables, depth, progress, part)?;
     }
@@ -68,10 +69,10 @@ fn step(
 ) -> Result<Progress, LineFault>
     requires depth { depth ≤ 100 }
     requires small { IsSmall part.now.token }
-    ensures { Answers (step (naming_of (environment_of variables.now)) depth progress part.now) result }
+    ensures { IsPlainOrMemory is_memory (step (naming_of (environment_of variables.now)) depth progress part.now) result }
 {
     match progress.value {
-        Some(value) => progress.behind(value, part),
+        Some(value) => progress.after_operand(value, part),
         None => operand(alloc, variables, depth, progress, part),
     }
 }
@@ -87,7 +88,7 @@ fn operand(
 ) -> Result<Progress, LineFault>
     requires depth { depth ≤ 100 }
     requires small { IsSmall part.now.token }
-    ensures { Answers (operand_by (naming_of (environment_of variables.now)) depth part.now.place progress part.now.token) result }
+    ensures { IsPlainOrMemory is_memory (operand_by (naming_of (environment_of variables.now)) depth part.now.place progress part.now.token) result }
 {
     match &part.token {
         Token::Number(number) => progress.counted(part.place, Amount::new(*number)),
@@ -121,19 +122,25 @@ fn named(
     name: &Text,
 ) -> Result<Progress, LineFault>
     requires { depth ≤ 100 }
-    ensures { Answers (named (naming_of (environment_of variables.now)) depth place progress name.now) result }
+    ensures { IsPlainOrMemory is_memory (named (naming_of (environment_of variables.now)) depth place progress name.now) result }
 {
     let nested = progress.stack.depth();
-    if nested >= MOST_DEPTH - depth || progress.met >= MOST_NUMBERS {
+    if nested >= MOST_DEPTH - depth || progress.operand_count >= MOST_NUMBERS {
         return Err(LineFault::BadFormula(place));
     }
-    let value = value_of_name(alloc, variables, depth + nested + 1, progress.met + 1, name);
-    Ok(progress.reckoned_on(blamed(place, value)?))
+    let value = value_of_name(
+        alloc,
+        variables,
+        depth + nested + 1,
+        progress.operand_count + 1,
+        name,
+    );
+    Ok(progress.evaluated_on(at_reference(place, value)?))
 }
 
 /// What stands wrong in the formula of a name stands wrong at that name.
-fn blamed(place: u32, value: Result<Reckoned, LineFault>) -> Result<Reckoned, LineFault>
-    ensures { result ≡ blamed place value }
+fn at_reference(place: u32, value: Result<Evaluated, LineFault>) -> Result<Evaluated, LineFault>
+    ensures { result ≡ at_reference place value }
 {
     match value {
         Err(LineFault::BadFormula(_)) => Err(LineFault::BadFormula(place)),
@@ -141,33 +148,36 @@ fn blamed(place: u32, value: Result<Reckoned, LineFault>) -> Result<Reckoned, Li
     }
 }
 
-/// The value of a name, inside so many others and behind so many numbers and names.
+/// The value of a name, at this depth and after so many numbers and names.
 #[cycle(value)]
 fn value_of_name(
     alloc: Global,
     variables: &VariableTable,
     depth: usize,
-    met: u32,
+    operand_count: u32,
     name: &Text,
-) -> Result<Reckoned, LineFault>
+) -> Result<Evaluated, LineFault>
     requires { depth ≤ 100 }
-    ensures { Answers (naming_of (environment_of variables.now) depth met name.now) result }
+    ensures { IsPlainOrMemory is_memory (naming_of (environment_of variables.now) depth operand_count name.now) result }
 {
     match variables.get(name.as_str()) {
-        Some(Variable::Index { value, .. }) => decimal_of(met, value.as_bytes()),
-        Some(Variable::Loop { value, .. }) => Ok(Reckoned::new(Amount::whole(*value), met)),
-        Some(Variable::String(text)) => decimal_of(met, text.as_bytes()),
-        Some(Variable::Equal(text)) => value_of_text(alloc, variables, depth, met, text),
+        Some(Variable::Index { value, .. }) => decimal_of(operand_count, value.as_bytes()),
+        Some(Variable::Loop { value, .. }) => Ok(Evaluated::new(
+            Amount::whole(*value),
+            operand_count,
+        )),
+        Some(Variable::String(text)) => decimal_of(operand_count, text.as_bytes()),
+        Some(Variable::Equal(text)) => value_of_text(alloc, variables, depth, operand_count, text),
         None => Err(LineFault::UnknownVariable(Text::copy(alloc, name.as_str())?)),
     }
 }
 
 /// A text that is read as a decimal number, and else is wrong where its name stands.
-fn decimal_of(met: u32, text: &[u8]) -> Result<Reckoned, LineFault>
-    ensures { result ≡ decimal_of met (millionths_of text.now) }
+fn decimal_of(operand_count: u32, text: &[u8]) -> Result<Evaluated, LineFault>
+    ensures { result ≡ decimal_of operand_count (millionths_of text.now) }
 {
     match Dec::read(text) {
-        Ok(number) => Ok(Reckoned::new(Amount::new(number), met)),
+        Ok(number) => Ok(Evaluated::new(Amount::new(number), operand_count)),
         Err(_) => Err(LineFault::BadFormula(0)),
     }
 }

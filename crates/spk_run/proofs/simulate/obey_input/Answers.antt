@@ -1,5 +1,4 @@
-use Rattle.spk_run.proofs.Loading.{obeyed_input}
 use Rattle.spk_run.proofs.simulate.obey_input.Goals as goal
 
 pub returns-clause-wrote : goal.returns-clause-wrote
-returns-clause-wrote g c = obeyed_input _ _ _ _ _ _ _ c.in-File.is c.obey_file.ensures.wrote
+returns-clause-wrote g c = rw c.in-File.is (rw c.as_slice.ensures at c.obey_file.ensures.wrote)

@@ -17,7 +17,7 @@ returns-clause-ok c =
     let absent : files_of c.args.files.now c.args.name.now ≡ None = files_of-none _ _ c.in_default.ensures.value in
     rw (absent, ← c.get_mut.follows.holds-at-none) c.put.ensures.ok
 
-pub returns-clause-wants : goal.returns-clause-wants
-returns-clause-wants c =
+pub returns-clause-allocates : goal.returns-clause-allocates
+returns-clause-allocates c =
     let absent : files_of c.args.files.now c.args.name.now ≡ None = files_of-none _ _ c.in_default.ensures.value in
     search (rules, absent)

@@ -10,7 +10,7 @@ returns-in-Some-clause-ok c =
     files_of-update _ _ _ _ ((c.get_mut.follows.holds c.clear.new.self).3 (search rules))
     ∙ ap (λ bytes. update bytes_eq (files_of c.args.files.now) c.args.name.now (Some bytes)) c.clear.ensures.items
 
-pub returns-clause-wants : goal.returns-clause-wants
-returns-clause-wants c =
+pub returns-clause-allocates : goal.returns-clause-allocates
+returns-clause-allocates c =
     let absent : files_of c.args.files.now c.args.name.now ≡ None = files_of-none _ _ c.in_default.ensures.value in
     search (rules, absent)

@@ -8,12 +8,12 @@ overflow_add-total c = omega (arith, c.sites.invariant.room)
 pub sites-preserved : goal.sites-preserved
 sites-preserved c =
     rw c.in_ok-push.ensures.items
-    (first_more _ _ _ _ _ c.sites.invariant c.propensity-weight.ensures.weight c.propensity-weight.ensures.at_most)
+    (first_more _ _ _ _ _ _ c.sites.invariant c.propensity-weight.ensures.weight c.propensity-weight.ensures.at_most)
 
 pub invariant_of-result : goal.invariant_of-result
 invariant_of-result c =
-    let all = length-first _ _ _ _ c.sites.invariant in
+    let all = length-first _ _ _ _ _ c.sites.invariant in
     (c.sites.invariant.sum_is, c.sites.invariant.small, omega (arith, all))
 
 pub returns : goal.returns
-returns c = first_all _ _ _ _ c.sites.invariant (omega arith)
+returns c = first_all _ _ _ _ _ c.sites.invariant (omega arith)

@@ -25,5 +25,5 @@ decreases-named l = 6 * (100 - l.depth)
 -- the parts that are left come to what all parts do
 abbrev pub invariant-value_of_parts-loop-part : goal.invariant-value_of_parts-loop-part
 invariant-value_of_parts-loop-part l =
-    run (naming_of (environment_of l.variables)) l.depth (started l.met) l.parts ≡ run (naming_of (environment_of l.variables)) l.depth
+    run (naming_of (environment_of l.variables)) l.depth (started l.operand_count) l.parts ≡ run (naming_of (environment_of l.variables)) l.depth
     l.progress (drop l.part-index l.parts)

@@ -1,6 +1,6 @@
 use Rattle.std.proofs.Common.{Ok, sym, ap, ◌∙◌}
 use Rattle.std.proofs.lemmas.Result.{err_from_is_err_and}
-use Rattle.spk_script.proofs.FaultLaws.{then_value, then_fault}
+use Rattle.spk_num.proofs.ResultLaws.{then_value, then_fault}
 use Rattle.spk_script.proofs.formula.progress.Progress.finished.Goals as goal
 
 pub returns-in_err-value : goal.returns-in_err-value

@@ -1,0 +1,105 @@
+-- A run goes on by a cycle, and by a text.
+use Rattle.std.proofs.Common.{◌≡◌, ℕ, ◌+◌, ◌-◌, ◌<◌, ◌≤◌, true, false, List, [], ◌∷◌, map, length, set, Option, Ok, Err, Result, refl, sym, ap, ◌∙◌, subst, arith}
+use Rattle.std.specs.Prelude.{vec_capacity}
+use Rattle.spk_world.specs.States.{WorldState}
+use Rattle.spk_world.specs.Effects.{Effect, ◌>>◌, answers, Wrote}
+use Rattle.spk_world.proofs.Loops.{GoesOn, goes_from_start, goes_to_end}
+use Rattle.spk_run.specs.declared.answer.Target.{Target}
+use Rattle.spk_run.specs.declared.domain.Domain.{Domain}
+use Rattle.spk_run.specs.declared.rank_state.RankState.{RankState}
+use Rattle.spk_run.specs.declared.run_settings.RunSettings.{RunSettings}
+use Rattle.spk_run.specs.declared.running.Running.{Running}
+use Rattle.spk_run.specs.declared.teller.Teller.{Teller}
+use Rattle.spk_run.specs.Ising.{whole_chain}
+use Rattle.spk_run.specs.Turns.{propensities, counts_sum, turn_of}
+use Rattle.spk_run.specs.Plans.{elapsed, window, cycles, is_mark, marks_from}
+use Rattle.spk_run.specs.Statistics.{header_text, statistics_text}
+use Rattle.spk_run.specs.Output.{prints, prints_all}
+use Rattle.spk_run.specs.Endings.{target_stop}
+use Rattle.spk_run.specs.Runs.{mark_text, run_texts, domain_after}
+use Rattle.spk_run.specs.Running.{KeepsBox, HasDone, RunsOn}
+use Rattle.spk_run.specs.Telling.{GoesOnAfter, GoesOnTelling}
+use Rattle.spk_run.proofs.Outputs.{prints_none, prints_more}
+use Rattle.spk_run.proofs.PlanLaws.{marks_more, marks_skip, marks_none}
+use Rattle.spk_run.proofs.Ranks.{one_rank_step, mark_text_is, domain_after_is}
+
+-- after a turn
+pub has_turned : (settings : RunSettings) (domain : Domain) (done ticks : ℕ) (old new : Running) → settings.sectors ≡ 1 → ticks ≡ window settings done →
+    HasDone settings domain done old → KeepsBox domain new → new.state ≡ turn_of (whole_chain (length old.state.values)) ticks old.state →
+    length new.state.values ≡ length old.state.values → new.kept ≡ propensities (whole_chain (length old.state.values)) new.state.values →
+    HasDone settings domain (done + 1) new
+has_turned settings domain done ticks old new one window_is has keeps state sites kept = record {
+  keeps = keeps;
+  state = rw (state, window_is, has.sites) (one_rank_step settings domain done old.state one has.keeps.some_stream has.state);
+  sites = sites ∙ has.sites;
+  afresh = rw has.sites at kept;
+}
+
+-- the text of a mark by what the run holds
+pub told_text : (settings : RunSettings) (domain : Domain) (done ticks : ℕ) (running : Running) → settings.sectors ≡ 1 → ticks ≡ elapsed settings done →
+    HasDone settings domain done running →
+    mark_text settings domain done ≡ statistics_text (record { time = running.time + ticks; counts = counts_sum running.counts running.state.counts; sweeps = running.sweeps })
+told_text settings domain done ticks running one elapsed_is has =
+    mark_text_is settings domain done running.state one has.state
+    ∙ rw (has.keeps.time, has.keeps.counts, has.keeps.sweeps, elapsed_is) refl
+
+-- the box after a run
+pub finished_box : (settings : RunSettings) (domain : Domain) (running : Running) → settings.sectors ≡ 1 → HasDone settings domain (cycles settings) running →
+    domain_after settings domain
+    ≡ record {
+      lattice = running.lattice;
+      time = running.time + settings.length;
+      values = running.state.values;
+      streams = set running.streams 0 running.state.stream;
+      counts = counts_sum running.counts running.state.counts;
+      sweeps = running.sweeps;
+    }
+finished_box settings domain running one has =
+    domain_after_is settings domain running.state one has.state
+    ∙ rw (has.keeps.lattice, has.keeps.time, has.keeps.streams, has.keeps.counts, has.keeps.sweeps) refl
+
+-- what was told changes nothing of the sites
+pub has_done_telling : (settings : RunSettings) (domain : Domain) (done : ℕ) (running : Running) (teller : Teller) → HasDone settings domain done running →
+    HasDone settings domain done (record running { teller = teller })
+has_done_telling settings domain done running teller has = record {
+  keeps = record { lattice = has.keeps.lattice; time = has.keeps.time; streams = has.keeps.streams; counts = has.keeps.counts; sweeps = has.keeps.sweeps; some_stream = has.keeps.some_stream; line = has.keeps.line };
+  state = has.state;
+  sites = has.sites;
+  afresh = has.afresh;
+}
+
+-- the texts that are left after a cycle with a mark, after one without, and after the last
+pub texts_more : (log : Option (List ℕ)) (settings : RunSettings) (domain : Domain) (cycle : ℕ) → cycle < cycles settings → is_mark settings cycle ≡ true →
+    prints_all log (map (mark_text settings domain) (marks_from settings cycle))
+    ≡ (prints log (mark_text settings domain (cycle + 1)) >> prints_all log (map (mark_text settings domain) (marks_from settings (cycle + 1))))
+texts_more log settings domain cycle below marked =
+    ap (λ (marks : List ℕ). prints_all log (map (mark_text settings domain) marks)) (marks_more settings cycle below marked)
+    ∙ prints_more log (mark_text settings domain (cycle + 1)) (map (mark_text settings domain) (marks_from settings (cycle + 1)))
+
+pub texts_skip : (log : Option (List ℕ)) (settings : RunSettings) (domain : Domain) (cycle : ℕ) → cycle < cycles settings → is_mark settings cycle ≡ false →
+    prints_all log (map (mark_text settings domain) (marks_from settings cycle)) ≡ prints_all log (map (mark_text settings domain) (marks_from settings (cycle + 1)))
+texts_skip log settings domain cycle below marked =
+    ap (λ (marks : List ℕ). prints_all log (map (mark_text settings domain) marks)) (marks_skip settings cycle below marked)
+
+pub texts_none : (log : Option (List ℕ)) (settings : RunSettings) (domain : Domain) (cycle : ℕ) → cycles settings ≤ cycle →
+    prints_all log (map (mark_text settings domain) (marks_from settings cycle)) ≡ answers tt
+texts_none log settings domain cycle past =
+    ap (λ (marks : List ℕ). prints_all log (map (mark_text settings domain) marks)) (marks_none settings cycle past) ∙ prints_none log
+
+-- at a run's start the header and the first line are still to be written
+pub starts_telling : (start : WorldState) (log : Option (List ℕ)) (settings : RunSettings) (domain : Domain) (teller : Teller) → teller.told ≡ Ok tt → teller.output.log ≡ log →
+    GoesOnTelling start start log teller (prints_all log (run_texts settings domain))
+    (prints log header_text >> (prints log (mark_text settings domain 0) >> prints_all log (map (mark_text settings domain) (marks_from settings 0))))
+starts_telling start log settings domain teller none is = record {
+  has_log = rw none is;
+  goes = rw (none, prints_more, prints_more) goes_from_start;
+}
+
+ended_by : (told : Result (Unit {0}) Target) (start now : WorldState) (whole : Effect (Unit {0})) → GoesOnAfter told start now whole (answers tt) → Wrote target_stop start now whole told
+ended_by (Ok _) start now whole on = goes_to_end on
+ended_by (Err target) start now whole on = on
+
+-- where all texts are told
+pub ends_telling : (start now : WorldState) (log : Option (List ℕ)) (teller : Teller) (whole rest : Effect (Unit {0})) → rest ≡ answers tt →
+    GoesOnTelling start now log teller whole rest → Wrote target_stop start now whole teller.told
+ends_telling start now log teller whole rest none on = ended_by teller.told start now whole (subst (λ (r : Effect (Unit {0})). GoesOnAfter teller.told start now whole r) none on.goes)

@@ -1,0 +1,21 @@
+-- What a teller has come to: it goes on with what is left of the texts, or a write has failed.
+use Rattle.std.specs.Prelude.{◌≡◌, ℕ, List, Option, Result, Ok, Err}
+use Rattle.spk_world.specs.States.{WorldState}
+use Rattle.spk_world.specs.Effects.{Effect, Wrote}
+use Rattle.spk_world.proofs.Loops.{GoesOn}
+use Rattle.spk_run.specs.Endings.{target_stop}
+use Rattle.spk_run.specs.declared.answer.Target.{Target}
+use Rattle.spk_run.specs.declared.teller.Teller.{Teller}
+
+abbrev pub GoesOnAfter : Result (Unit {0}) Target → WorldState → WorldState → Effect (Unit {0}) → Effect (Unit {0}) → Type 0
+GoesOnAfter (Ok _) start now whole rest = GoesOn target_stop start now whole rest
+GoesOnAfter (Err target) start now whole rest = Wrote target_stop start now whole (Err target)
+
+-- where no write has failed, the output still has the log's name
+abbrev pub HasLog : Result (Unit {0}) Target → Option (List ℕ) → Option (List ℕ) → Type 0
+HasLog (Ok _) log now = now ≡ log
+HasLog (Err target) log now = Unit {0}
+
+pub record GoesOnTelling (start now : WorldState) (log : Option (List ℕ)) (teller : Teller) (whole rest : Effect (Unit {0})) : Type 0 where
+  pub has_log : HasLog teller.told log teller.output.log
+  pub goes : GoesOnAfter teller.told start now whole rest

@@ -1,0 +1,151 @@
+//! The causes for which a script is refused, and the faults that they come from.
+
+ghost use Rattle.std.specs.Prelude.{◌≡◌, IfSome};
+ghost use Rattle.spk_run.specs.Causes.{IsOfState, line_cause, words_cause, lattice_cause};
+
+use spk_cmds::CommandFault;
+use spk_lattice::LatticeFault;
+use spk_num::text::Text;
+use spk_script::LineFault;
+
+/// Why a script is refused.
+#[derive(Debug, Drop)]
+pub enum Cause {
+    /// It has more than 1048576 bytes.
+    ScriptTooLong,
+    /// No script may have the byte at this place, counted from 0.
+    NotAscii(u32),
+    /// A quote isn't closed.
+    OpenQuote,
+    /// It has more than 100000 lines.
+    TooManyLines,
+    /// The words of the line take more than 4096 bytes.
+    LineTooLong,
+    /// A run of it arrives at more than 1000000 commands.
+    TooManyCommands,
+    /// No variable has this name.
+    UnknownVariable(Text),
+    /// A command of the script's language takes another number of words.
+    WrongWords,
+    /// This word is no name.
+    BadName(Text),
+    /// A byte of a formula can't stand at this place, counted from 0.
+    BadFormula(u32),
+    /// The result of an operation has more than six places, or a divisor is 0.
+    Inexact,
+    /// The result of an operation passes 10^12.
+    NumberTooLarge,
+    /// A loop has 1 to 1000000 turns.
+    LoopValue,
+    /// The variable with this name has no next value.
+    NotStepped(Text),
+    /// A jump leads to another file.
+    OtherFile,
+    /// No line is this label.
+    NoSuchLabel(Text),
+    /// No variable has this style.
+    BadStyle(Text),
+    /// No command has this name.
+    UnknownCommand(Text),
+    /// A command takes another word in the place of this one.
+    UnknownStyle(Text),
+    /// A command takes another number of words.
+    WrongCount,
+    /// This word is no number of its kind.
+    BadNumber(Text),
+    /// This number isn't in its range.
+    OutOfRange(Text),
+    /// This command or word isn't built yet.
+    NotBuilt(Text),
+    /// This word of a command is no name.
+    BadCommandName(Text),
+    /// No `seed` was given.
+    NoSeed,
+    /// No `app_style` was given.
+    NoApp,
+    /// No `lattice` was given.
+    NoLattice,
+    /// There is no box yet.
+    NoBox,
+    /// There are no sites yet.
+    NoSites,
+    /// It was given or made already.
+    AlreadyMade,
+    /// A region has this name already.
+    RegionTwice(Text),
+    /// No region has this name.
+    NoSuchRegion(Text),
+    /// A region's low bound is above its high one.
+    RegionEmpty,
+    /// It would be the 129th region.
+    TooManyRegions,
+    /// A box is made of a region that is no block.
+    BoxNotBlock,
+    /// A box does not reach from 0 to a whole number in this dimension, 0 to 2 for x to z.
+    BoxNotWhole(u32),
+    /// A box has fewer than 3 cells in this dimension.
+    TooSmall(u32),
+    /// A box has more than 4194304 sites.
+    TooManySites,
+    /// Neither a solver nor a sweep was given.
+    NoSolver,
+    /// The application has no such value as that of this site.
+    BadValueForApp(u32),
+    /// A run has more than 10^9 steps, or ends after 4 * 10^18 ticks.
+    RunTooLong,
+    /// No file has this name.
+    FileMissing(Text),
+}
+
+impl Cause {
+    /// The cause that a fault of a line is. Out of memory is none.
+    pub fn of_line(fault: LineFault) -> Option<Cause>
+        ensures cause { result ≡ line_cause fault }
+        ensures of_state { IfSome result IsOfState }
+    {
+        match fault {
+            LineFault::LineTooLong => Some(Cause::LineTooLong),
+            LineFault::TooManyCommands(_) => Some(Cause::TooManyCommands),
+            LineFault::UnknownVariable(name) => Some(Cause::UnknownVariable(name)),
+            LineFault::WrongWords => Some(Cause::WrongWords),
+            LineFault::BadName(word) => Some(Cause::BadName(word)),
+            LineFault::BadFormula(place) => Some(Cause::BadFormula(place)),
+            LineFault::Inexact => Some(Cause::Inexact),
+            LineFault::NumberTooLarge => Some(Cause::NumberTooLarge),
+            LineFault::LoopValue => Some(Cause::LoopValue),
+            LineFault::NotStepped(name) => Some(Cause::NotStepped(name)),
+            LineFault::OtherFile => Some(Cause::OtherFile),
+            LineFault::NoSuchLabel(label) => Some(Cause::NoSuchLabel(label)),
+            LineFault::BadStyle(word) => Some(Cause::BadStyle(word)),
+            LineFault::Memory => None,
+        }
+    }
+
+    /// The cause that a fault of the words of a command is. Out of memory is none.
+    pub fn of_words(fault: CommandFault) -> Option<Cause>
+        ensures cause { result ≡ words_cause fault }
+        ensures of_state { IfSome result IsOfState }
+    {
+        match fault {
+            CommandFault::UnknownCommand(word) => Some(Cause::UnknownCommand(word)),
+            CommandFault::UnknownStyle(word) => Some(Cause::UnknownStyle(word)),
+            CommandFault::WrongCount => Some(Cause::WrongCount),
+            CommandFault::BadNumber(word) => Some(Cause::BadNumber(word)),
+            CommandFault::OutOfRange(word) => Some(Cause::OutOfRange(word)),
+            CommandFault::NotBuilt(word) => Some(Cause::NotBuilt(word)),
+            CommandFault::BadName(word) => Some(Cause::BadCommandName(word)),
+            CommandFault::Memory => None,
+        }
+    }
+
+    /// The cause that a fault of a lattice is.
+    pub fn of_lattice(fault: LatticeFault) -> Cause
+        ensures cause { result ≡ lattice_cause fault }
+        ensures of_state { IsOfState result }
+    {
+        match fault {
+            LatticeFault::TooSmall(dimension) => Cause::TooSmall(dimension),
+            LatticeFault::TooManySites => Cause::TooManySites,
+        }
+    }
+}

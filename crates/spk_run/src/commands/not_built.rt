@@ -1,0 +1,98 @@
+//! Commands that aren't built yet, whatever their words are.
+
+ghost use Rattle.std.specs.Prelude.{◌≡◌, not, IfOk};
+ghost use Rattle.std.specs.List.{list_any};
+ghost use Rattle.spk_run.specs.Commands.NotBuilt.{is_built_app, is_built_lattice, is_built_shape, is_built_solver, is_built_value, word_if, unbuilt_word};
+
+use spk_cmds::{AppStyle, Command, SetValue, SolveStyle};
+use spk_num::shape::Shape;
+use spk_num::style::Style;
+use spk_num::text::Text;
+use std::alloc::{AllocError, Global};
+
+fn is_built_app(style: AppStyle) -> bool
+    ensures { result ≡ is_built_app style }
+{
+    matches!(style, AppStyle::Ising)
+}
+
+fn is_built_lattice(style: Style) -> bool
+    ensures { result ≡ is_built_lattice style }
+{
+    matches!(style, Style::Line2)
+}
+
+fn is_built_shape(shape: &Shape) -> bool
+    ensures { result ≡ is_built_shape shape.now }
+{
+    matches!(shape, Shape::Block { .. })
+}
+
+fn is_built_value(value: SetValue) -> bool
+    ensures { result ≡ is_built_value value }
+{
+    !matches!(value, SetValue::Unique)
+}
+
+fn is_built_solver(style: SolveStyle) -> bool
+    ensures { result ≡ is_built_solver style }
+{
+    matches!(style, SolveStyle::Linear)
+}
+
+/// Whether a face isn't periodic.
+fn has_open_face(faces: &[bool]) -> bool
+    ensures { result ≡ list_any (λ face. face) faces.now }
+{
+    faces.iter().any(|face| *face)
+}
+
+/// A word, where what it begins isn't built.
+fn word_if(alloc: Global, unbuilt: bool, word: &str) -> Result<Option<Text>, AllocError>
+    ensures { IfOk result (λ found. found ≡ word_if unbuilt word.now) }
+{
+    if !unbuilt {
+        return Ok(None);
+    }
+    Ok(Some(Text::copy(alloc, word)?))
+}
+
+/// The first word of a command that isn't built.
+#[tactic(auto, unfolding(crate::specs::Commands::NotBuilt::unbuilt_word))]
+pub fn unbuilt_word(alloc: Global, command: &Command) -> Result<Option<Text>, AllocError>
+    ensures { IfOk result (λ found. found ≡ unbuilt_word command.now) }
+{
+    match command {
+        Command::App { style } => word_if(alloc, !is_built_app(*style), "app_style"),
+        Command::Dimension { .. } => word_if(alloc, true, "dimension"),
+        Command::Lattice { style, .. } => word_if(alloc, !is_built_lattice(*style), "lattice"),
+        Command::Boundary { faces } => word_if(alloc, has_open_face(faces), "boundary"),
+        Command::Processors { .. } => word_if(alloc, true, "processors"),
+        Command::Region { shape, .. } => word_if(alloc, !is_built_shape(shape), "region"),
+        Command::Set {
+            value,
+            fraction,
+            region,
+        } => {
+            let unbuilt = !is_built_value(*value) || fraction.is_some() || region.is_some();
+            word_if(alloc, unbuilt, "set")
+        }
+        Command::ReadSites { .. } => word_if(alloc, true, "read_sites"),
+        Command::WriteRestart { .. } => word_if(alloc, true, "write_restart"),
+        Command::ReadRestart { .. } => word_if(alloc, true, "read_restart"),
+        Command::Sector { .. } => word_if(alloc, true, "sector"),
+        Command::Solve { style } => word_if(alloc, !is_built_solver(*style), "solve_style"),
+        Command::Sweep { .. } => word_if(alloc, true, "sweep"),
+        Command::Temperature { t } => word_if(alloc, t.millionths > 0, "temperature"),
+        Command::DiagEnergy => word_if(alloc, true, "diag_style"),
+        Command::Dump { .. } => word_if(alloc, true, "dump"),
+        Command::Undump { .. } => word_if(alloc, true, "undump"),
+        Command::Seed { .. }
+        | Command::CreateBox { .. }
+        | Command::CreateSites
+        | Command::Stats { .. }
+        | Command::Run { .. }
+        | Command::Print { .. }
+        | Command::SetEcho { .. } => Ok(None),
+    }
+}

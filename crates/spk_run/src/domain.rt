@@ -1,0 +1,19 @@
+//! The box of a session.
+
+use crate::counts::Counts;
+use crate::streams::Streams;
+use crate::values::Values;
+use spk_lattice::Lattice;
+
+/// The box, with its lattice and its sites, which have no values before they are made.
+#[derive(Debug, Drop)]
+pub struct Domain {
+    pub lattice: Lattice,
+    /// In ticks.
+    pub time: u64,
+    pub values: Values,
+    pub streams: Streams,
+    /// The events since the box was made.
+    pub counts: Counts,
+    pub sweeps: u64,
+}

@@ -1,0 +1,44 @@
+//! The texts of a run, one after another.
+
+ghost use Rattle.std.specs.Prelude.{◌≡◌, List, Ok, Option, ℕ};
+ghost use Rattle.spk_world.specs.Effects.{Effect};
+ghost use Rattle.spk_world.specs.States.{WorldState};
+ghost use Rattle.spk_run.specs.Output.{prints_then};
+ghost use Rattle.spk_run.specs.Telling.{GoesOnTelling};
+
+use crate::answer::Target;
+use crate::output::Output;
+use spk_world::World;
+
+/// Writes the texts of a run to the screen and the log. After the first write that failed it writes no more.
+#[derive(Debug, Drop)]
+pub struct Teller {
+    pub output: Output,
+    /// Whether all writes so far were done, and else which failed first.
+    pub told: Result<(), Target>,
+}
+
+impl Teller {
+    /// A teller that was told nothing yet.
+    pub fn new(output: Output) -> Teller
+        ensures output { result.output ≡ output }
+        ensures told { result.told ≡ Ok tt }
+    {
+        Teller {
+            output,
+            told: Ok(()),
+        }
+    }
+
+    /// Writes one more text, where no write has failed.
+    pub fn tell<W: World>(&mut self, world: &mut W, text: &[u8])
+        ensures { (start : WorldState) (log : Option (List ℕ)) (whole rest : Effect (Unit {0})) →
+            GoesOnTelling start (W.state world.old) log self.old whole (prints_then log text.now rest) →
+            GoesOnTelling start (W.state world.new) log self.new whole rest }
+    {
+        if self.told.is_err() {
+            return;
+        }
+        self.told = self.output.print(world, text);
+    }
+}
