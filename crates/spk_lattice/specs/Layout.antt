@@ -1,7 +1,7 @@
 -- Which lattices there are: a style and its extents, modelled on SPPARKS's lattices. The limits are our own.
-use Rattle.std.specs.Prelude.{◌≡◌, ℕ, ◌*◌, ◌≤◌, Bool, ◌&&◌, if◌then◌else◌, nat_lt, Result, Ok, Err}
+use Rattle.std.specs.Prelude.{◌≡◌, ℕ, ◌*◌, ◌≤◌, Bool, ◌&&◌, if◌then◌else◌, nat_lt, length, Result, Ok, Err}
 use Rattle.spk_num.specs.declared.style.Style.{Style}
-use Rattle.spk_num.specs.declared.style.Style.TheVariants.{Line2, Sq4, Sq8, Tri, Sc6, Sc26, Bcc, Fcc}
+use Rattle.spk_lattice.specs.Styles.{row_of}
 use Rattle.spk_lattice.specs.declared.lattice.LatticeFault.{LatticeFault}
 use Rattle.spk_lattice.specs.declared.lattice.LatticeFault.TheVariants.{TooSmall, TooManySites}
 
@@ -14,25 +14,11 @@ pub record Layout : Type 0 where
 
 -- how many dimensions are used: x alone, x and y, or all three
 abbrev pub dimensions_of : Style → ℕ
-dimensions_of Line2 = 1
-dimensions_of Sq4 = 2
-dimensions_of Sq8 = 2
-dimensions_of Tri = 2
-dimensions_of Sc6 = 3
-dimensions_of Sc26 = 3
-dimensions_of Bcc = 3
-dimensions_of Fcc = 3
+dimensions_of style = (row_of style).dimensions
 
 -- how many sites a cell has
 abbrev pub basis_of : Style → ℕ
-basis_of Line2 = 1
-basis_of Sq4 = 1
-basis_of Sq8 = 1
-basis_of Tri = 2
-basis_of Sc6 = 1
-basis_of Sc26 = 1
-basis_of Bcc = 2
-basis_of Fcc = 4
+basis_of style = length (row_of style).basis
 
 abbrev pub sites_of : Layout → ℕ
 sites_of layout = basis_of layout.style * (layout.nx * layout.ny * layout.nz)

@@ -1,1 +1,8 @@
+pub mod Styles
 pub mod Layout
+pub mod Neighbours
+pub mod Table
+pub mod Hops
+pub mod Spread
+pub mod Regions
+pub mod Shapes

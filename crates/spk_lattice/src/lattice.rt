@@ -1,9 +1,16 @@
 //! A periodic lattice by its style and extents.
 
-ghost use Rattle.std.specs.Prelude.{◌≡◌, ◌≤◌, ◌∷◌, []};
+ghost use Rattle.std.specs.Prelude.{◌≡◌, ◌≤◌, ◌+◌, ◌*◌, ◌∷◌, [], pos, All};
 ghost use Rattle.spk_lattice.specs.Layout.{IsLattice, lattice_of, sites_of, dimensions_of, basis_of};
+ghost use Rattle.spk_lattice.specs.Neighbours.{IsId, IsSpot, spot_in, id_of, spot_of, place_of, point_of, coordinates, ids_of, nb};
 
-use spk_num::style::Style;
+use crate::grid::{Grid, Spot};
+use crate::neighbours::Neighbours;
+use crate::place::Place;
+use crate::reach;
+use crate::style_row::style_row;
+use crate::table::{Row, basis_point, table_of};
+use spk_num::Style;
 use std::marker::Model;
 use thiserror::Error;
 
@@ -16,22 +23,24 @@ const FEWEST_CELLS: u32 = 3;
 /// A lattice of one of the styles, periodic in each used dimension.
 #[derive(Clone, Copy, Debug)]
 pub struct Lattice {
-    style: Style,
-    nx: u32,
-    ny: u32,
-    nz: u32,
+    grid: Grid,
+    table: [Row; 4],
 }
 
 impl Model for Lattice {
-    ghost use Rattle.spk_lattice.specs.Layout.{Layout, IsLattice};
+    ghost use Rattle.std.specs.Prelude.{◌≡◌};
+    ghost use Rattle.spk_lattice.specs.Layout.{Layout};
+    ghost use Rattle.spk_lattice.specs.Table.{table_of};
 
     ghost Value = { Layout };
 
-    ghost view = { λ l. record { style = l.style; nx = l.nx; ny = l.ny; nz = l.nz } };
+    ghost view = { λ l. l.grid };
 
-    ghost invariant = { λ l. IsLattice (record { style = l.style; nx = l.nx; ny = l.ny; nz = l.nz }) };
+    ghost invariant = { λ l. table_of l.grid ≡ l.table };
 
-    ghost inverse = { λ d. record { style = d.style; nx = d.nx; ny = d.ny; nz = d.nz } };
+    ghost inverse = { λ d. record { grid = d; table = table_of d } };
+
+    ghost inverse_ok = { λ l is i. record { grid = l.grid; table = is i } };
 }
 
 /// Why there is no such lattice.
@@ -45,33 +54,18 @@ pub enum LatticeFault {
     TooManySites,
 }
 
-/// How many dimensions a lattice of this style uses.
-fn dimensions(style: Style) -> u32
-    ensures { result ≡ dimensions_of style }
-{
-    match style {
-        Style::Line2 => 1,
-        Style::Sq4 | Style::Sq8 | Style::Tri => 2,
-        Style::Sc6 | Style::Sc26 | Style::Bcc | Style::Fcc => 3,
-    }
-}
-
-/// How many sites each cell of a lattice of this style has.
-fn basis(style: Style) -> u32
-    ensures { result ≡ basis_of style }
-{
-    match style {
-        Style::Line2 | Style::Sq4 | Style::Sq8 | Style::Sc6 | Style::Sc26 => 1,
-        Style::Tri | Style::Bcc => 2,
-        Style::Fcc => 4,
-    }
-}
-
 /// How many sites a lattice would have.
 fn site_count(style: Style, nx: u32, ny: u32, nz: u32) -> u128
     ensures { result ≡ sites_of (record { style = style; nx = nx; ny = ny; nz = nz }) }
 {
-    u128::from(basis(style)) * (u128::from(nx) * u128::from(ny) * u128::from(nz))
+    style_row(style).basis.len() as u128 * (u128::from(nx) * u128::from(ny) * u128::from(nz))
+}
+
+/// A coordinate in half units, of a cell and of a basis point in it.
+fn half_units(cell: u32, half: u32) -> i64
+    ensures { result ≡ pos (2 * cell + half) }
+{
+    (2 * u64::from(cell) + u64::from(half)) as i64
 }
 
 impl Lattice {
@@ -81,7 +75,7 @@ impl Lattice {
         requires z_unused { dimensions_of style ≤ 2 → nz ≡ 1 }
         ensures { result ≡ lattice_of (record { style = style; nx = nx; ny = ny; nz = nz }) }
     {
-        let used = dimensions(style);
+        let used = style_row(style).dimensions;
         if nx < FEWEST_CELLS {
             return Err(LatticeFault::TooSmall(0));
         }
@@ -94,28 +88,32 @@ impl Lattice {
         if site_count(style, nx, ny, nz) > MOST_SITES {
             return Err(LatticeFault::TooManySites);
         }
-        Ok(Lattice { style, nx, ny, nz })
+        let grid = Grid::new(style, nx, ny, nz);
+        Ok(Lattice {
+            grid,
+            table: table_of(&grid),
+        })
     }
 
     /// What holds of every lattice: the least extents, and the most sites.
     pub fn known(&self)
         ensures { IsLattice self.now }
     {
-        let _style = self.style;
+        self.grid.known();
     }
 
     /// The style that the lattice was made with.
     pub fn style(&self) -> Style
         ensures { result ≡ self.now.style }
     {
-        self.style
+        self.grid.style()
     }
 
     /// How many cells there are in x, y and z.
     pub fn extents(&self) -> [u32; 3]
         ensures { result ≡ self.now.nx ∷ self.now.ny ∷ self.now.nz ∷ [] }
     {
-        [self.nx, self.ny, self.nz]
+        self.grid.extents()
     }
 
     /// How many dimensions the lattice uses: x alone, x and y, or all three.
@@ -123,7 +121,7 @@ impl Lattice {
         ensures dimensions { result ≡ dimensions_of self.now.style }
         ensures few { result ≤ 3 }
     {
-        dimensions(self.style)
+        style_row(self.grid.style()).dimensions
     }
 
     /// How many sites there are, at most 4194304.
@@ -131,13 +129,60 @@ impl Lattice {
         ensures count { result ≡ sites_of self.now }
         ensures limit { result ≤ 4194304 }
     {
-        site_count(self.style, self.nx, self.ny, self.nz) as u32
+        self.grid.known();
+        self.grid.sites()
+    }
+
+    /// The id, counted from 1, of the site at a basis point of a cell.
+    pub fn id_of(&self, cell: [u32; 3], basis: u32) -> u32
+        requires { IsSpot self.now (spot_in cell basis) }
+        ensures { result ≡ id_of self.now (spot_in cell basis) }
+    {
+        let [x, y, z] = cell;
+        self.grid.id_of(&Spot { x, y, z, basis })
+    }
+
+    /// Where a site lies.
+    pub fn cell_of(&self, id: u32) -> Place
+        requires { IsId self.now id }
+        ensures { result ≡ place_of (spot_of self.now id) }
+    {
+        let spot = self.grid.spot_of(id);
+        Place {
+            cell: [spot.x, spot.y, spot.z],
+            basis: spot.basis,
+        }
+    }
+
+    /// The neighbours of a site, in rising order of z, y, x and basis point of the way to them before wrapping.
+    pub fn neighbours(&self, id: u32) -> Neighbours
+        requires { IsId self.now id }
+        ensures few { result.count ≤ 26 }
+        ensures ids { ids_of result ≡ nb self.now id }
+        ensures sites { All (IsId self.now) (nb self.now id) }
+    {
+        reach::neighbours(&self.grid, &self.table, id)
+    }
+
+    /// The point of a site, in half units: twice its cell, and its basis point.
+    pub fn point(&self, id: u32) -> [i64; 3]
+        requires { IsId self.now id }
+        ensures { result ≡ coordinates (point_of self.now id) }
+    {
+        let spot = self.grid.spot_of(id);
+        let half = basis_point(self.grid.style(), spot.basis);
+        [
+            half_units(spot.x, half.x),
+            half_units(spot.y, half.y),
+            half_units(spot.z, half.z),
+        ]
     }
 }
 
 #[cfg(test)]
 mod tests {
     use super::*;
+    use std::process::Abort;
 
     #[test]
     fn limits_a_chain(rt: HostRuntime) {
@@ -155,15 +200,48 @@ mod tests {
         }
     }
 
+    /// The lattice with this style and so many cells.
+    fn made(rt: &impl Abort, style: Style, nx: u32, ny: u32, nz: u32) -> Lattice
+        requires y_unused { dimensions_of style ≤ 1 → ny ≡ 1 }
+        requires z_unused { dimensions_of style ≤ 2 → nz ≡ 1 }
+        ensures { result ≡ record { style = style; nx = nx; ny = ny; nz = nz } }
+    {
+        match Lattice::new(style, nx, ny, nz) {
+            Ok(lattice) => lattice,
+            Err(_) => panic!(rt; "there is such a lattice"),
+        }
+    }
+
     #[test]
     fn keeps_what_it_was_made_with(rt: HostRuntime) {
-        let lattice = Lattice::new(Style::Line2, 10, 1, 1)
-            .ok()
-            .expect(&rt, "ten cells");
+        let lattice = made(&rt, Style::Line2, 10, 1, 1);
         assert_eq!(rt; lattice.style() == Style::Line2, true);
         assert_eq!(rt; lattice.extents(), [10, 1, 1]);
         assert_eq!(rt; lattice.dimensions(), 1);
         lattice.known();
         assert_eq!(rt; lattice.sites(), 10);
+    }
+
+    #[test]
+    fn numbers_the_sites_of_fcc(rt: HostRuntime) {
+        let lattice = made(&rt, Style::Fcc, 3, 3, 3);
+        assert_eq!(rt; lattice.sites(), 108);
+        assert_eq!(rt; lattice.id_of([1, 0, 0], 2), 7);
+        assert_eq!(rt;
+            lattice.cell_of(7),
+            Place {
+                cell: [1, 0, 0],
+                basis: 2
+            }
+        );
+        assert_eq!(rt; lattice.point(7), [3, 0, 1]);
+    }
+
+    #[test]
+    fn lists_neighbours_in_order(rt: HostRuntime) {
+        let square = made(&rt, Style::Sq8, 3, 3, 1).neighbours(1);
+        assert_eq!(rt; square.as_slice(), [9, 7, 8, 3, 2, 6, 4, 5].as_slice());
+        let cubic = made(&rt, Style::Bcc, 3, 3, 3).neighbours(1);
+        assert_eq!(rt; cubic.as_slice(), [54, 50, 42, 38, 18, 14, 6, 2].as_slice());
     }
 }

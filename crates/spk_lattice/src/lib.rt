@@ -1,7 +1,17 @@
-//! Lattices: their styles, extents and sites.
+//! Lattices: their styles, extents, sites and neighbours. Regions: which points they hold.
 #![tactic(auto)]
 
+mod grid;
 pub mod lattice;
+pub mod neighbours;
+pub mod place;
+mod reach;
+pub mod regions;
+mod style_row;
+mod table;
 
 pub use lattice::{Lattice, LatticeFault};
+pub use neighbours::Neighbours;
+pub use place::Place;
+pub use regions::{Block, RegionFault, Regions};
 pub use spk_num::{Bound, Shape, Style};

@@ -1,0 +1,15 @@
+pub mod Tables
+pub mod Spots
+pub mod Room
+pub mod Rows
+pub mod Hops
+pub mod Ways
+pub mod Reaching
+pub mod Merges
+pub mod Spreads
+pub mod Balls
+pub mod Added
+pub mod Answers
+pub mod Holding
+pub mod Squares
+pub mod Stored

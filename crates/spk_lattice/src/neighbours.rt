@@ -1,0 +1,21 @@
+//! The neighbours of a site.
+
+ghost use Rattle.std.specs.Prelude.{◌≡◌, ◌≤◌};
+ghost use Rattle.spk_lattice.specs.Neighbours.{ids_of};
+
+/// The ids of a site's neighbours: of these the first `count` count.
+#[derive(Clone, Copy, Debug)]
+pub struct Neighbours {
+    pub count: u32,
+    pub ids: [u32; 26],
+}
+
+impl Neighbours {
+    /// The ids that count.
+    pub fn as_slice(&self) -> &[u32]
+        requires { self.now.count ≤ 26 }
+        ensures { result.now ≡ ids_of self.now }
+    {
+        &self.ids[..self.count as usize]
+    }
+}
