@@ -114,7 +114,7 @@ impl Reader {
     }
 
     /// Takes a heading that stands before the first case.
-    fn take_front(&mut self, word: &[u8], text: &[u8]) -> Result<(), Cause> {
+    fn take_words(&mut self, word: &[u8], text: &[u8]) -> Result<(), Cause> {
         if word != b"from".as_slice() {
             return Err(Cause::OutsideCase);
         }
@@ -130,7 +130,7 @@ impl Reader {
         }
         match &mut self.draft {
             Some(draft) => put_heading(self.alloc, draft, word, text),
-            None => self.take_front(word, text),
+            None => self.take_words(word, text),
         }
     }
 

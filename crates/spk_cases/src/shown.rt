@@ -10,7 +10,7 @@ const SHOWN: usize = 160;
 /// How many of them may stand before the first that differs.
 const BEFORE: usize = 60;
 
-/// How many bytes the fronts of two texts have in common.
+/// How many bytes two texts have in common before they differ.
 pub fn common(left: &[u8], right: &[u8]) -> usize
     ensures { result ≤ length left.now }
 {

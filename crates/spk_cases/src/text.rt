@@ -83,9 +83,9 @@ fn plain_text(alloc: Global, text: &[u8]) -> Result<Vec<u8>, Cause> {
 /// The two parts of a text around the first byte of this kind, which is in neither.
 pub fn parted(text: &[u8], separator: u8) -> Option<(&[u8], &[u8])> {
     let place = text.iter().position(|byte| *byte == separator)?;
-    let (front, back) = text.split_at(place);
-    match back {
-        [_, rest @ ..] => Some((front, rest)),
+    let (before, after) = text.split_at(place);
+    match after {
+        [_, rest @ ..] => Some((before, rest)),
         [] => None,
     }
 }

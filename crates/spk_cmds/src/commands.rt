@@ -50,7 +50,7 @@ fn row_found(rows: &[Row], name: &str) -> Option<Forms>
 }
 
 /// The form of a deciding word, or that the word is unknown or isn't built yet.
-#[tactic(auto, using(crate::proofs::Refusals::judged))]
+#[tactic(auto, using(crate::proofs::Refusals::plain_or_memory))]
 fn decided_by(
     alloc: Global,
     form: Option<Form>,
@@ -69,7 +69,7 @@ fn decided_by(
 }
 
 /// The form of a deciding word, or that the word is missing, unknown or not built yet.
-#[tactic(auto, using(crate::proofs::Refusals::judged))]
+#[tactic(auto, using(crate::proofs::Refusals::plain_or_memory))]
 fn decided(
     alloc: Global,
     styles: &[Styled],
@@ -85,7 +85,7 @@ fn decided(
 }
 
 /// The form of the words after a command's name.
-#[tactic(auto, using(crate::proofs::Refusals::judged))]
+#[tactic(auto, using(crate::proofs::Refusals::plain_or_memory))]
 fn form_of(alloc: Global, forms: Forms, name: &Text, words: &[Text]) -> Result<Form, CommandFault>
     ensures { IsPlainOrMemory is_memory (form_of (forms_seen forms) name.now words.now) (found_seen result) }
 {
@@ -97,7 +97,7 @@ fn form_of(alloc: Global, forms: Forms, name: &Text, words: &[Text]) -> Result<F
 }
 
 /// The form of the words after a command's name, where the table has that.
-#[tactic(auto, using(crate::proofs::Refusals::judged))]
+#[tactic(auto, using(crate::proofs::Refusals::plain_or_memory))]
 fn form_found_by(
     alloc: Global,
     forms: Option<Forms>,
@@ -121,7 +121,7 @@ fn form_found(alloc: Global, name: &Text, words: &[Text]) -> Result<Form, Comman
 }
 
 /// The command that words of a form make.
-#[tactic(auto, using(crate::proofs::Refusals::judged))]
+#[tactic(auto, using(crate::proofs::Refusals::plain_or_memory))]
 fn read_by(alloc: Global, form: &Form, words: &[Text]) -> Result<Command, CommandFault>
     ensures { IsPlainOrMemory is_memory (read_by words.now (form_seen form.now)) result }
 {
@@ -131,7 +131,7 @@ fn read_by(alloc: Global, form: &Form, words: &[Text]) -> Result<Command, Comman
 }
 
 /// The command that a name and the words after it make.
-#[tactic(auto, using(crate::proofs::Refusals::judged))]
+#[tactic(auto, using(crate::proofs::Refusals::plain_or_memory))]
 fn named_command(alloc: Global, name: &Text, words: &[Text]) -> Result<Command, CommandFault>
     ensures { IsPlainOrMemory is_memory (named_command name.now words.now) result }
 {
@@ -141,7 +141,7 @@ fn named_command(alloc: Global, name: &Text, words: &[Text]) -> Result<Command, 
 
 /// The command that words make, or the first fault: an unknown command, an unknown deciding word, the number of words,
 /// the form of a word from the left, and the range of a number from the left.
-#[tactic(auto, using(crate::proofs::Refusals::judged))]
+#[tactic(auto, using(crate::proofs::Refusals::plain_or_memory))]
 pub fn command_of(alloc: Global, words: &[Text]) -> Result<Command, CommandFault>
     ensures read { IsPlainOrMemory is_memory (command_read words.now) result }
     ensures formed { IfOk result IsWellFormed }

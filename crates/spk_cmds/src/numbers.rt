@@ -19,7 +19,7 @@ use spk_num::whole::{whole_of, whole_within};
 use std::alloc::Global;
 
 /// The whole number in a range that a word is.
-#[tactic(auto, using(crate::proofs::Refusals::judged))]
+#[tactic(auto, using(crate::proofs::Refusals::plain_or_memory))]
 fn whole_in(alloc: Global, low: u64, high: u64, word: &Text) -> Result<Value, CommandFault>
     requires { high < 2 ^ 32 }
     ensures { IsPlainOrMemory is_memory (whole_in low high word.now) result }
@@ -41,7 +41,7 @@ fn next_number(words: &[Text]) -> u64
 }
 
 /// A number in a range of millionths, both ends taken.
-#[tactic(auto, using(crate::proofs::Refusals::judged))]
+#[tactic(auto, using(crate::proofs::Refusals::plain_or_memory))]
 fn inside(alloc: Global, low: i64, high: i64, word: &Text, number: Dec) -> Result<Dec, CommandFault>
     ensures { IsPlainOrMemory is_memory (inside_or_out low high (Ok number.millionths) word.now) result }
 {
@@ -53,7 +53,7 @@ fn inside(alloc: Global, low: i64, high: i64, word: &Text, number: Dec) -> Resul
 }
 
 /// Refuses a number that is too large for any range.
-#[tactic(auto, using(crate::proofs::Refusals::judged))]
+#[tactic(auto, using(crate::proofs::Refusals::plain_or_memory))]
 fn outside(alloc: Global, word: &Text) -> Result<Dec, CommandFault>
     ensures { IsPlainOrMemory is_memory (Err (OutOfRange word.now)) result }
 {
@@ -72,7 +72,7 @@ fn decimal_in(alloc: Global, low: i64, high: i64, word: &Text) -> Result<Dec, Co
 }
 
 /// Refuses a number above one, since such numbers aren't built yet.
-#[tactic(auto, using(crate::proofs::Refusals::judged), unfolding(crate::specs::Kinds::built_to))]
+#[tactic(auto, using(crate::proofs::Refusals::plain_or_memory), unfolding(crate::specs::Kinds::built_to))]
 fn built_to(alloc: Global, most: i64, word: &Text, number: Dec) -> Result<Value, CommandFault>
     ensures { IsPlainOrMemory is_memory (built_to most word.now number) result }
 {
@@ -83,7 +83,7 @@ fn built_to(alloc: Global, most: i64, word: &Text, number: Dec) -> Result<Value,
 }
 
 /// The bound that a word is.
-#[tactic(auto, using(crate::proofs::Refusals::judged))]
+#[tactic(auto, using(crate::proofs::Refusals::plain_or_memory))]
 fn bound_in(alloc: Global, low: i64, high: i64, word: &Text) -> Result<Value, CommandFault>
     ensures { IsPlainOrMemory is_memory (bound_in low high word.now) result }
 {
@@ -95,7 +95,7 @@ fn bound_in(alloc: Global, low: i64, high: i64, word: &Text) -> Result<Value, Co
 }
 
 /// The decimal number in a range that a word is, as a value.
-#[tactic(auto, using(crate::proofs::Refusals::judged))]
+#[tactic(auto, using(crate::proofs::Refusals::plain_or_memory))]
 fn decimal_value(alloc: Global, low: i64, high: i64, word: &Text) -> Result<Value, CommandFault>
     ensures { IsPlainOrMemory is_memory (decimal_value low high word.now) result }
 {
@@ -104,7 +104,7 @@ fn decimal_value(alloc: Global, low: i64, high: i64, word: &Text) -> Result<Valu
 }
 
 /// A word as a value.
-#[tactic(auto, using(crate::proofs::Refusals::judged))]
+#[tactic(auto, using(crate::proofs::Refusals::plain_or_memory))]
 fn word_value(alloc: Global, word: &Text) -> Result<Value, CommandFault>
     ensures { IsPlainOrMemory is_memory (Ok (Word word.now)) result }
 {
@@ -113,7 +113,7 @@ fn word_value(alloc: Global, word: &Text) -> Result<Value, CommandFault>
 }
 
 /// A decimal number of which those above one aren't built yet.
-#[tactic(auto, using(crate::proofs::Refusals::judged))]
+#[tactic(auto, using(crate::proofs::Refusals::plain_or_memory))]
 fn decimal_built_to(
     alloc: Global,
     low: i64,
@@ -128,7 +128,7 @@ fn decimal_built_to(
 }
 
 /// The value of a word that has the form of its kind, where its number is in the range. Other words stand after it.
-#[tactic(auto, using(crate::proofs::Refusals::judged), unfolding(crate::specs::Kinds::valued))]
+#[tactic(auto, using(crate::proofs::Refusals::plain_or_memory), unfolding(crate::specs::Kinds::valued))]
 pub fn value_of(
     alloc: Global,
     kind: &Kind,

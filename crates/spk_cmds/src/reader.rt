@@ -116,7 +116,7 @@ fn keyword_kind(keywords: &[Keyword], word: &str) -> Kind
 }
 
 /// Refuses a keyword that stands twice, that is unknown or that isn't built yet.
-#[tactic(auto, using(crate::proofs::Refusals::judged))]
+#[tactic(auto, using(crate::proofs::Refusals::plain_or_memory))]
 fn judge_keyword(
     alloc: Global,
     keywords: &[Keyword],
@@ -138,7 +138,7 @@ fn judge_keyword(
 }
 
 /// Refuses a pair of a keyword and its value.
-#[tactic(auto, using(crate::proofs::Refusals::judged))]
+#[tactic(auto, using(crate::proofs::Refusals::plain_or_memory))]
 fn judge_pair(
     alloc: Global,
     keywords: &[Keyword],
@@ -175,7 +175,7 @@ fn judge_pairs(
 }
 
 /// Refuses the first word of a tail that hasn't its form.
-#[tactic(auto, using(crate::proofs::Refusals::judged))]
+#[tactic(auto, using(crate::proofs::Refusals::plain_or_memory))]
 fn judge_tail(alloc: Global, tail: Tail, words: &[Text]) -> Result<(), CommandFault>
     ensures { IsPlainOrMemory is_memory (tail_formed (tail_seen tail) words.now) result }
 {
@@ -244,7 +244,7 @@ fn value_pairs(
 }
 
 /// The values of a tail.
-#[tactic(auto, using(crate::proofs::Refusals::judged))]
+#[tactic(auto, using(crate::proofs::Refusals::plain_or_memory))]
 fn value_tail(alloc: Global, tail: Tail, words: &[Text]) -> Result<Values, CommandFault>
     ensures { IsPlainOrMemory is_memory (tail_valued (tail_seen tail) words.now) result }
 {
@@ -258,7 +258,7 @@ fn value_tail(alloc: Global, tail: Tail, words: &[Text]) -> Result<Values, Comma
 }
 
 /// Refuses the first word that hasn't its form.
-#[tactic(auto, using(crate::proofs::Refusals::judged))]
+#[tactic(auto, using(crate::proofs::Refusals::plain_or_memory))]
 fn judge_words(alloc: Global, form: &Form, words: &[Text]) -> Result<(), CommandFault>
     requires { length form.now.kinds.now ≤ length words.now }
     ensures { IsPlainOrMemory is_memory (words_formed (form_seen form.now) words.now) result }
@@ -268,7 +268,7 @@ fn judge_words(alloc: Global, form: &Form, words: &[Text]) -> Result<(), Command
 }
 
 /// The values of words that have their forms, or the first number that is out of its range.
-#[tactic(auto, using(crate::proofs::Refusals::judged))]
+#[tactic(auto, using(crate::proofs::Refusals::plain_or_memory))]
 fn value_words(alloc: Global, form: &Form, words: &[Text]) -> Result<Reading, CommandFault>
     requires { length form.now.kinds.now ≤ length words.now }
     ensures { IsPlainOrMemory is_memory (words_valued (form_seen form.now) words.now) result }
@@ -280,7 +280,7 @@ fn value_words(alloc: Global, form: &Form, words: &[Text]) -> Result<Reading, Co
 
 /// The values that words are by a form, or the first fault: the number of words, the form of a word from the left, and
 /// the range of a number from the left.
-#[tactic(auto, using(crate::proofs::Refusals::judged))]
+#[tactic(auto, using(crate::proofs::Refusals::plain_or_memory))]
 pub fn read_form(alloc: Global, form: &Form, words: &[Text]) -> Result<Reading, CommandFault>
     ensures { IsPlainOrMemory is_memory (form_read (form_seen form.now) words.now) result }
 {

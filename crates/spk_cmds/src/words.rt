@@ -25,7 +25,7 @@ pub fn is_among(words: &[&str], word: &str) -> bool
 }
 
 /// Refuses a word that is in neither list, and one of the second list, which isn't built yet.
-#[tactic(auto, using(crate::proofs::Refusals::judged))]
+#[tactic(auto, using(crate::proofs::Refusals::plain_or_memory))]
 pub fn judge_style(
     alloc: Global,
     built: &[&str],
@@ -44,7 +44,7 @@ pub fn judge_style(
 }
 
 /// Refuses a word that hasn't the form of a number.
-#[tactic(auto, using(crate::proofs::Refusals::judged))]
+#[tactic(auto, using(crate::proofs::Refusals::plain_or_memory))]
 fn judge_number(alloc: Global, is_number: bool, word: &Text) -> Result<(), CommandFault>
     ensures { IsPlainOrMemory is_memory (number_if is_number word.now) result }
 {
@@ -55,7 +55,7 @@ fn judge_number(alloc: Global, is_number: bool, word: &Text) -> Result<(), Comma
 }
 
 /// Refuses a word that hasn't the form of a name.
-#[tactic(auto, using(crate::proofs::Refusals::judged))]
+#[tactic(auto, using(crate::proofs::Refusals::plain_or_memory))]
 fn judge_name(alloc: Global, is_name: bool, word: &Text) -> Result<(), CommandFault>
     ensures { IsPlainOrMemory is_memory (name_if is_name word.now) result }
 {
@@ -83,7 +83,7 @@ pub fn is_open(word: &Text) -> bool
 }
 
 /// Refuses a word that hasn't the form of its kind.
-#[tactic(auto, using(crate::proofs::Refusals::judged), unfolding(crate::specs::Kinds::formed))]
+#[tactic(auto, using(crate::proofs::Refusals::plain_or_memory), unfolding(crate::specs::Kinds::formed))]
 pub fn judge_form(alloc: Global, kind: &Kind, word: &Text) -> Result<(), CommandFault>
     ensures { IsPlainOrMemory is_memory (formed (kind_seen kind.now) word.now) result }
 {

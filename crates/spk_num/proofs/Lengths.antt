@@ -5,7 +5,7 @@ use Rattle.std.proofs.lemmas.Fmt.{decimal_nonempty, length-decimal-le}
 pub length_decimal : (n : ℕ) → n < 2 ^ 64 → length (decimal n) ≤ 20
 length_decimal n h = length-decimal-le 20 n (omega arith) (omega arith) h
 
--- a fraction with a 1 in front, of six digits
+-- a fraction with a leading 1, of six digits
 pub length_six_digits : (n : ℕ) → n < 1000000 → length (decimal (1000000 + n)) ≤ 7
 length_six_digits n h = length-decimal-le 7 (1000000 + n) (omega arith) (omega arith) (omega arith)
 

@@ -27,7 +27,7 @@ plain_fault is_memory plain fault is known = is
 
 pub plain_memory : {A E : Type 0} (is_memory : E → Bool) (plain : Result A E) (fault : E) → is_memory fault ≡ true → IsPlainOrMemory is_memory plain (Err fault)
 unfolding IsPlainOrMemory
-plain_memory is_memory plain fault wants known = let no : true ≡ false = sym wants ∙ known in cc
+plain_memory is_memory plain fault is known = let no : true ≡ false = sym is ∙ known in cc
 
 -- what comes after a value, and a fault that nothing comes after
 pub plain_then : {A B E : Type 0} (is_memory : E → Bool) (plain : Result A E) (next : A → Result B E) (a : A) (result : Result B E) →
@@ -41,10 +41,10 @@ unfolding IsPlainOrMemory
 plain_failed is_memory plain next fault failed known = then_fault plain next fault (failed known)
 
 -- out of memory on the way
-pub plain_wanting : {A E : Type 0} (is_memory : E → Bool) (plain result : Result A E) (memory : E) → IsErrAnd result (λ fault. fault ≡ memory) →
+pub plain_out_of_memory : {A E : Type 0} (is_memory : E → Bool) (plain result : Result A E) (memory : E) → IsErrAnd result (λ fault. fault ≡ memory) →
     is_memory memory ≡ true → IsPlainOrMemory is_memory plain result
-plain_wanting is_memory plain (Ok a) memory wanting is = absurd wanting
-plain_wanting is_memory plain (Err fault) memory wanting is = plain_memory is_memory plain fault (ap is_memory wanting ∙ is)
+plain_out_of_memory is_memory plain (Ok a) memory out is = absurd out
+plain_out_of_memory is_memory plain (Err fault) memory out is = plain_memory is_memory plain fault (ap is_memory out ∙ is)
 
 -- where a fault is handed on
 pub plain_handed : {A B E : Type 0} (is_memory : E → Bool) (plain : Result A E) (next : A → Result B E) (fault : E) (result : Result B E) →
@@ -63,10 +63,10 @@ unfolding IsPlainOrMemory
 plain_refused is_memory plain next fault is known = then_fault plain (λ _. next) fault is
 
 -- the same of a call whose own value is left out
-pub with_wanting : {A B E : Type 0} (is_memory : E → Bool) (plain : Result A E) (a : A) (result : Result B E) (memory : E) → IsErrAnd result (λ fault. fault ≡ memory) →
+pub with_out_of_memory : {A B E : Type 0} (is_memory : E → Bool) (plain : Result A E) (a : A) (result : Result B E) (memory : E) → IsErrAnd result (λ fault. fault ≡ memory) →
     is_memory memory ≡ true → IsPlainOrMemory is_memory plain (result_with a result)
-with_wanting is_memory plain a (Ok b) memory wanting is = absurd wanting
-with_wanting is_memory plain a (Err fault) memory wanting is = plain_memory is_memory plain fault (ap is_memory wanting ∙ is)
+with_out_of_memory is_memory plain a (Ok b) memory out is = absurd out
+with_out_of_memory is_memory plain a (Err fault) memory out is = plain_memory is_memory plain fault (ap is_memory out ∙ is)
 
 pub with_handed : {A B C E : Type 0} (is_memory : E → Bool) (plain : Result A E) (next : A → Result B E) (fault : E) (b : B) (result : Result C E) →
     IsPlainOrMemory is_memory plain (Err fault) → IsErrAnd result (λ f. f ≡ fault) → IsPlainOrMemory is_memory (plain >>= next) (result_with b result)
@@ -74,9 +74,9 @@ with_handed is_memory plain next fault b (Ok c) failed handed = absurd handed
 with_handed is_memory plain next fault b (Err f) failed handed =
     subst (λ e. IsPlainOrMemory is_memory (plain >>= next) (Err e)) (sym handed) (plain_failed is_memory plain next fault failed)
 
--- what functions come to that judge something, that make a value, and that read a word
-pub ruleset judged = (plain_value, plain_fault, plain_wanting, plain_handed, plain_then)
+-- the laws for a function that checks something, for one that makes a state, and for one that reads a word
+pub ruleset plain_or_memory = (plain_value, plain_fault, plain_out_of_memory, plain_handed, plain_then)
 
-pub ruleset made = (plain_value, plain_fault, with_wanting, with_handed, plain_then)
+pub ruleset state_or_memory = (plain_value, plain_fault, with_out_of_memory, with_handed, plain_then)
 
-pub ruleset worth = (plain_worth, plain_refused, plain_wanting)
+pub ruleset value_or_memory = (plain_worth, plain_refused, plain_out_of_memory)

@@ -13,20 +13,20 @@ use Rattle.std.specs.Char.{IsAsciiDigit, is_ascii_digit, digit_value}
 use Rattle.std.specs.List.{prefix_len}
 use Rattle.std.specs.Prelude.{EachIndex, slice_index, true}
 use Rattle.std.specs.Str.Parse.{digits_value}
-use Rattle.spk_num.specs.Decimal.{front_digits}
+use Rattle.spk_num.specs.Decimal.{leading_digits}
 
 digit_from_test : (digit : ℕ) → is_ascii_digit digit ≡ true → IsAsciiDigit digit
 digit_from_test digit h = grind (arith, nat_tests)
 
--- the digits in front are digits
-pub front_digits_are_digits : (text : List ℕ) (k : ℕ) → k < length (front_digits text) → IsAsciiDigit (get_or (front_digits text) k 0)
-front_digits_are_digits text k h =
+-- the leading digits are digits
+pub leading_digits_are_digits : (text : List ℕ) (k : ℕ) → k < length (leading_digits text) → IsAsciiDigit (get_or (leading_digits text) k 0)
+leading_digits_are_digits text k h =
     let within : k < prefix_len is_ascii_digit text = rw (length-prefix_len is_ascii_digit text) at h in
     rw (get_or-take (prefix_len is_ascii_digit text) text k 0 within)
     (digit_from_test (get_or text k 0) (prefix_len_passes is_ascii_digit text k 0 within))
 
-pub take_front_digits : (text : List ℕ) → take (length (front_digits text)) text ≡ front_digits text
-take_front_digits text = ap (λ k. take k text) (length-prefix_len is_ascii_digit text)
+pub take_leading_digits : (text : List ℕ) → take (length (leading_digits text)) text ≡ leading_digits text
+take_leading_digits text = ap (λ k. take k text) (length-prefix_len is_ascii_digit text)
 
 -- a digit more, under a cap
 pub capped_step : (value limit digit : ℕ) → IsAsciiDigit digit → min (min value limit * 10 + (digit - 48)) limit ≡ min (value * 10 + digit_value digit) limit
@@ -64,8 +64,8 @@ filled_with P xs m y each here k h =
     let below : k < m = omega (arith, simp length-take at h) in
     rw (get_or-take m (xs ++ replicate m y) k 0 below)
     (elim (cases_lt k (length xs)) [
-      | inl front ↦ rw (get_or_append_left xs (replicate m y) 0 k front) (each k front)
-      | inr behind ↦ rw (get_or-append_right xs (replicate m y) (length xs) k 0 refl behind, get_or-replicate m (k - length xs) y 0 (omega arith)) here
+      | inl before ↦ rw (get_or_append_left xs (replicate m y) 0 k before) (each k before)
+      | inr after ↦ rw (get_or-append_right xs (replicate m y) (length xs) k 0 refl after, get_or-replicate m (k - length xs) y 0 (omega arith)) here
     ])
 
 pub six_places_are_digits : (places : List ℕ) → EachIndex places (λ k. IsAsciiDigit (slice_index places k)) → EachIndex (take 6 (places ++ replicate 6 48)) (λ k. IsAsciiDigit (slice_index (take 6 (places ++ replicate 6 48)) k))

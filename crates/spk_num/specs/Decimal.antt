@@ -6,31 +6,31 @@ use Rattle.std.specs.Str.Parse.{digits_value}
 use Rattle.spk_num.specs.declared.decimal.DecFault.{DecFault}
 use Rattle.spk_num.specs.declared.decimal.DecFault.TheVariants.{BadByte, Empty, TooManyPlaces, TooLarge}
 
--- the digits that a text begins with, and what stands behind them
-abbrev pub front_digits : List ℕ → List ℕ
-front_digits text = take_while is_ascii_digit text
+-- the digits that a text begins with, and what stands after them
+abbrev pub leading_digits : List ℕ → List ℕ
+leading_digits text = take_while is_ascii_digit text
 
-abbrev pub behind_digits : List ℕ → List ℕ
-behind_digits text = drop (length (front_digits text)) text
+abbrev pub after_digits : List ℕ → List ℕ
+after_digits text = drop (length (leading_digits text)) text
 
 -- a text may begin with a minus
 abbrev pub is_negative : List ℕ → Bool
 is_negative [] = false
 is_negative (b ∷ _) = b == 45
 
-abbrev pub behind_sign : List ℕ → List ℕ
-behind_sign text = if is_negative text then drop 1 text else text
+abbrev pub after_sign : List ℕ → List ℕ
+after_sign text = if is_negative text then drop 1 text else text
 
--- behind the whole part a dot may stand, and then the places
+-- after the whole part a dot may stand, and then the places
 abbrev pub places_in : List ℕ → List ℕ
 places_in [] = []
-places_in (b ∷ text) = if b == 46 then front_digits text else []
+places_in (b ∷ text) = if b == 46 then leading_digits text else []
 
-abbrev pub behind_places : List ℕ → List ℕ
-behind_places [] = []
-behind_places (b ∷ text) = if b == 46 then behind_digits text else b ∷ text
+abbrev pub after_places : List ℕ → List ℕ
+after_places [] = []
+after_places (b ∷ text) = if b == 46 then after_digits text else b ∷ text
 
--- a text cut into its sign, its whole part, its places, and what can't stand behind them
+-- a text cut into its sign, its whole part, its places, and what can't stand after them
 pub record Numeral : Type 0 where
   pub negative : Bool
   pub whole : List ℕ
@@ -40,9 +40,9 @@ pub record Numeral : Type 0 where
 abbrev pub numeral : List ℕ → Numeral
 numeral text = record {
   negative = is_negative text;
-  whole = front_digits (behind_sign text);
-  places = places_in (behind_digits (behind_sign text));
-  rest = behind_places (behind_digits (behind_sign text));
+  whole = leading_digits (after_sign text);
+  places = places_in (after_digits (after_sign text));
+  rest = after_places (after_digits (after_sign text));
 }
 
 abbrev pub is_nil : List ℕ → Bool
@@ -77,7 +77,7 @@ abbrev pub without_last_zeros : List ℕ → List ℕ
 without_last_zeros [] = []
 without_last_zeros (d ∷ ds) = onto_trimmed d (without_last_zeros ds)
 
--- six digits of a number below a million, and nine of one below 10^9, with zeros in front
+-- six digits of a number below a million, and nine of one below 10^9, with leading zeros
 abbrev pub six_digits : ℕ → List ℕ
 six_digits n = drop 1 (decimal (1000000 + n))
 

@@ -10,7 +10,7 @@ doublings (suc k) x = if nat_lt x (2 ^ 30) then 1 + doublings k (2 * x) else 0
 abbrev pub shift_of : ℕ → ℕ
 shift_of x = doublings 30 x
 
--- k more bits of the logarithm of y, put behind the bits b; y is from 2^31 to 2^32, which stands for 1 to 2
+-- k more bits of the logarithm of y, put after the bits b; y is from 2^31 to 2^32, which stands for 1 to 2
 unfoldable pub log_bits : ℕ → ℕ → ℕ → ℕ
 log_bits zero y b = b
 log_bits (suc k) y b =

@@ -34,8 +34,8 @@ impl Dec {
         ensures { MatchResult result (λ d. millionths_of text.now ≡ Ok d.millionths) (λ e. millionths_of text.now ≡ Err e) }
     {
         let (negative, unsigned) = split_sign(text);
-        let (whole, behind) = split_digits(unsigned);
-        let (places, rest) = split_places(behind);
+        let (whole, after) = split_digits(unsigned);
+        let (places, rest) = split_places(after);
         if !rest.is_empty() {
             return Err(DecFault::BadByte((text.len() - rest.len()) as u64));
         }

@@ -75,7 +75,7 @@ impl DecText {
     {
         if millionths != 0 {
             let mut buffer = Buffer::new();
-            // A 1 in front keeps the zeros behind it.
+            // A leading 1 keeps the zeros after it.
             let digits = &buffer.format(1_000_000 + millionths).as_bytes()[1..];
             self.push(b'.');
             self.push_all(trimmed(digits));
@@ -107,7 +107,7 @@ pub fn print_ticks(ticks: u64) -> DecText
     let mut text = DecText::new();
     text.push_number(ticks / 1_000_000_000);
     text.push(b'.');
-    // A 1 in front keeps the zeros behind it.
+    // A leading 1 keeps the zeros after it.
     let fraction = 1_000_000_000 + ticks % 1_000_000_000;
     text.push_all(&buffer.format(fraction).as_bytes()[1..]);
     text

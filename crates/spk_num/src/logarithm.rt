@@ -4,7 +4,7 @@
 ghost use Rattle.std.specs.Prelude.{◌≡◌, ℕ, suc, ◌+◌, ◌*◌, ◌^◌, ◌<◌, ◌≤◌};
 ghost use Rattle.spk_num.specs.Logarithm.{shift_of, log_bits, neg_log_of, wait_of};
 
-/// How many bits of a logarithm stand behind the point.
+/// How many bits of a logarithm stand after the point.
 const PLACES: u32 = 24;
 /// The unit of a logarithm with these bits.
 const UNIT: u64 = 1 << 24;

@@ -34,7 +34,7 @@ fn is_whole(word: &[u8]) -> bool
     are_digits(word) && !word.is_empty() && word.len() <= MOST_DIGITS
 }
 
-/// The whole number that a word is. Zeros may stand in front.
+/// The whole number that a word is. Leading zeros are allowed.
 #[tactic(auto, using(crate::proofs::Wholes::whole_reads))]
 pub fn whole_of(word: &Text) -> Option<u64>
     ensures { result ≡ whole_of word.now }

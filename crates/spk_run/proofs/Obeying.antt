@@ -17,7 +17,8 @@ use Rattle.spk_script.specs.declared.variable.Variable.{Variable}
 use Rattle.spk_script.specs.declared.variable.Variable.TheVariants.{Index}
 use Rattle.spk_script.specs.Faults.{is_memory}
 use Rattle.spk_script.specs.Lines.{LogicalLine, line_numbered}
-use Rattle.spk_script.specs.Machine.{State, Arrived, new_state as new_machine, with_variable, with_new_variable, with_settings, arrive, line_at}
+use Rattle.spk_script.specs.States.{State, new_state as new_machine, with_variable, with_new_variable, with_settings}
+use Rattle.spk_script.specs.Machine.{Arrived, arrive, line_at}
 use Rattle.spk_script.specs.MachineStates.{StandsAt, arrived_to}
 use Rattle.spk_script.proofs.Arriving.{CountsAt, arrived_counts}
 use Rattle.spk_cmds.specs.Faults.{is_memory as is_words_memory}

@@ -87,7 +87,7 @@ texts_none log settings domain cycle past =
     ap (λ (marks : List ℕ). prints_all log (map (mark_text settings domain) marks)) (marks_none settings cycle past) ∙ prints_none log
 
 -- at a run's start the header and the first line are still to be written
-pub starts_telling : (start : WorldState) (log : Option (List ℕ)) (settings : RunSettings) (domain : Domain) (teller : Teller) → teller.told ≡ Ok tt → teller.output.log ≡ log →
+pub starts_telling : (start : WorldState) (log : Option (List ℕ)) (settings : RunSettings) (domain : Domain) (teller : Teller) → teller.written ≡ Ok tt → teller.output.log ≡ log →
     GoesOnTelling start start log teller (prints_all log (run_texts settings domain))
     (prints log header_text >> (prints log (mark_text settings domain 0) >> prints_all log (map (mark_text settings domain) (marks_from settings 0))))
 starts_telling start log settings domain teller none is = record {
@@ -95,11 +95,11 @@ starts_telling start log settings domain teller none is = record {
   goes = rw (none, prints_more, prints_more) goes_from_start;
 }
 
-ended_by : (told : Result (Unit {0}) Target) (start now : WorldState) (whole : Effect (Unit {0})) → GoesOnAfter told start now whole (answers tt) → Wrote target_stop start now whole told
+ended_by : (written : Result (Unit {0}) Target) (start now : WorldState) (whole : Effect (Unit {0})) → GoesOnAfter written start now whole (answers tt) → Wrote target_stop start now whole written
 ended_by (Ok _) start now whole on = goes_to_end on
 ended_by (Err target) start now whole on = on
 
 -- where all texts are told
 pub ends_telling : (start now : WorldState) (log : Option (List ℕ)) (teller : Teller) (whole rest : Effect (Unit {0})) → rest ≡ answers tt →
-    GoesOnTelling start now log teller whole rest → Wrote target_stop start now whole teller.told
-ends_telling start now log teller whole rest none on = ended_by teller.told start now whole (subst (λ (r : Effect (Unit {0})). GoesOnAfter teller.told start now whole r) none on.goes)
+    GoesOnTelling start now log teller whole rest → Wrote target_stop start now whole teller.written
+ends_telling start now log teller whole rest none on = ended_by teller.written start now whole (subst (λ (r : Effect (Unit {0})). GoesOnAfter teller.written start now whole r) none on.goes)

@@ -10,7 +10,8 @@ use Rattle.spk_script.specs.declared.machine.Arrival.TheVariants.{At, End}
 use Rattle.spk_script.specs.declared.machine.Step.{Step as LineStep}
 use Rattle.spk_script.specs.declared.machine.Step.TheVariants as line
 use Rattle.spk_script.specs.Lines.{LogicalLine, lines_of}
-use Rattle.spk_script.specs.Machine.{State, new_state as new_machine, with_settings, arrive, line_at, read}
+use Rattle.spk_script.specs.States.{State, new_state as new_machine, with_settings}
+use Rattle.spk_script.specs.Machine.{arrive, line_at, read}
 use Rattle.spk_cmds.specs.declared.command.Command.{Command}
 use Rattle.spk_cmds.specs.declared.command.CommandFault.{CommandFault}
 use Rattle.spk_cmds.specs.declared.options.Input.{Input}

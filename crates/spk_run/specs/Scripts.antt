@@ -3,7 +3,7 @@ use Rattle.std.specs.Prelude.{◌≡◌, ◌≤◌, ◌+◌, Result, Ok, Err}
 use Rattle.spk_world.specs.States.{Faults}
 use Rattle.spk_script.specs.declared.fault.LineFault.{LineFault}
 use Rattle.spk_script.specs.declared.fault.LineFault.TheVariants.{TooManyCommands}
-use Rattle.spk_script.specs.Machine.{State}
+use Rattle.spk_script.specs.States.{State}
 use Rattle.spk_run.specs.declared.script.Progress.{Progress}
 use Rattle.spk_run.specs.declared.script.Progress.TheVariants as progress
 use Rattle.spk_run.specs.declared.fault.Fault.{Fault}

@@ -17,5 +17,5 @@ HasLog (Ok _) log now = now ≡ log
 HasLog (Err target) log now = Unit {0}
 
 pub record GoesOnTelling (start now : WorldState) (log : Option (List ℕ)) (teller : Teller) (whole rest : Effect (Unit {0})) : Type 0 where
-  pub has_log : HasLog teller.told log teller.output.log
-  pub goes : GoesOnAfter teller.told start now whole rest
+  pub has_log : HasLog teller.written log teller.output.log
+  pub goes : GoesOnAfter teller.written start now whole rest

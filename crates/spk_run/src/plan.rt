@@ -129,8 +129,8 @@ impl Plan {
 mod tests {
     use super::*;
 
-    /// A run of 2.25 units from the start, with four sectors and cycles of half a unit.
-    fn settings(stats: u64) -> RunSettings
+    /// A run of 2.25 units from the start, with four sectors and cycles of half a unit, which `nstop` asks for.
+    fn by_events(stats: u64) -> RunSettings
         ensures { IsRun result }
     {
         RunSettings {
@@ -144,9 +144,24 @@ mod tests {
         }
     }
 
+    /// The same run, with cycles that `tstop` asks for.
+    fn by_the_clock(stats: u64) -> RunSettings
+        ensures { IsRun result }
+    {
+        RunSettings {
+            start: 0,
+            length: 2_250_000_000,
+            cycle: Cycle::Ticks(500_000_000),
+            largest: 1 << 30,
+            sectors: 4,
+            sweep: None,
+            stats,
+        }
+    }
+
     #[test]
     fn cuts_the_last_cycle(rt: HostRuntime) {
-        let plan = Plan::new(settings(0));
+        let plan = Plan::new(by_events(0));
         assert_eq!(rt; plan.cycles(), 5);
         for (done, ticks) in [
             (0, 0),
@@ -163,7 +178,7 @@ mod tests {
     #[test]
     fn marks_cycles(rt: HostRuntime) {
         // The ends of the five cycles are 0.5, 1, 1.5, 2 and 2.25 units; the interval is 1.2.
-        let plan = Plan::new(settings(1_200_000_000));
+        let plan = Plan::new(by_the_clock(1_200_000_000));
         for (cycle, marked) in [(0, false), (1, false), (2, true), (3, false), (4, true)] {
             if cycle < plan.cycles() {
                 assert_eq!(rt; plan.is_mark(cycle), marked, "at {cycle}");

@@ -24,7 +24,7 @@ pub fn run<W: World>(domain: Domain, plan: &Plan, room: RunRoom, world: &mut W) 
     requires afresh { room.kept ≡ propensities (whole_chain (length domain.values)) domain.values }
     requires fits { domain.time + plan.now.length < 2 ^ 64 }
     ensures domain { result.domain ≡ domain_after plan.now domain }
-    ensures wrote { Wrote target_stop (W.state world.old) (W.state world.new) (prints_all room.output.log (run_texts plan.now domain)) result.told }
+    ensures wrote { Wrote target_stop (W.state world.old) (W.state world.new) (prints_all room.output.log (run_texts plan.now domain)) result.written }
 {
     let mut running = Running::new(domain, room);
     running.teller.tell(world, HEADER);

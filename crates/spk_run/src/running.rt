@@ -57,7 +57,7 @@ pub struct Running {
 #[derive(Debug, Drop)]
 pub struct Finished {
     pub domain: Domain,
-    pub told: Result<(), Target>,
+    pub written: Result<(), Target>,
 }
 
 impl RunRoom {
@@ -82,7 +82,7 @@ impl Running {
         requires afresh { room.kept ≡ propensities (whole_chain (length domain.values)) domain.values }
         ensures done { (settings : Settings) → HasDone settings domain 0 result }
         ensures output { result.teller.output ≡ room.output }
-        ensures told { result.teller.told ≡ Ok tt }
+        ensures written { result.teller.written ≡ Ok tt }
         ensures ready { IsReady result }
         ensures time { result.time ≡ domain.time }
     {
@@ -122,7 +122,7 @@ impl Running {
         requires fits { self.old.time + ticks < 2 ^ 64 }
         ensures ready { IsReady self.new }
         ensures done { (settings : Settings) (domain : Box) (done : ℕ) → HasDone settings domain done self.old → HasDone settings domain done self.new }
-        ensures told { (settings : Settings) (domain : Box) (done : ℕ) (start : WorldState) (log : Option (List ℕ)) (whole rest : Effect (Unit {0})) →
+        ensures telling { (settings : Settings) (domain : Box) (done : ℕ) (start : WorldState) (log : Option (List ℕ)) (whole rest : Effect (Unit {0})) →
             settings.sectors ≡ 1 → ticks ≡ elapsed settings done → HasDone settings domain done self.old →
             GoesOnTelling start (W.state world.old) log self.old.teller whole (prints_then log (mark_text settings domain done) rest) →
             GoesOnTelling start (W.state world.new) log self.new.teller whole rest }
@@ -160,7 +160,7 @@ impl Running {
         requires { self.time + ticks < 2 ^ 64 }
         ensures domain { (settings : Settings) (domain : Box) → settings.sectors ≡ 1 → settings.length ≡ ticks →
             HasDone settings domain (cycles settings) self → result.domain ≡ domain_after settings domain }
-        ensures told { result.told ≡ self.teller.told }
+        ensures written { result.written ≡ self.teller.written }
     {
         let Running {
             lattice,
@@ -183,7 +183,7 @@ impl Running {
         };
         Finished {
             domain,
-            told: teller.told,
+            written: teller.written,
         }
     }
 }

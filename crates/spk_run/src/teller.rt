@@ -15,18 +15,18 @@ use spk_world::World;
 pub struct Teller {
     pub output: Output,
     /// Whether all writes so far were done, and else which failed first.
-    pub told: Result<(), Target>,
+    pub written: Result<(), Target>,
 }
 
 impl Teller {
-    /// A teller that was told nothing yet.
+    /// A teller that has told nothing yet.
     pub fn new(output: Output) -> Teller
         ensures output { result.output ≡ output }
-        ensures told { result.told ≡ Ok tt }
+        ensures written { result.written ≡ Ok tt }
     {
         Teller {
             output,
-            told: Ok(()),
+            written: Ok(()),
         }
     }
 
@@ -36,9 +36,9 @@ impl Teller {
             GoesOnTelling start (W.state world.old) log self.old whole (prints_then log text.now rest) →
             GoesOnTelling start (W.state world.new) log self.new whole rest }
     {
-        if self.told.is_err() {
+        if self.written.is_err() {
             return;
         }
-        self.told = self.output.print(world, text);
+        self.written = self.output.print(world, text);
     }
 }

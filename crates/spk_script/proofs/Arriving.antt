@@ -13,7 +13,8 @@ use Rattle.spk_script.specs.declared.machine.Arrival.{Arrival}
 use Rattle.spk_script.specs.declared.machine.Arrival.TheVariants.{At, End}
 use Rattle.spk_script.specs.CommandPlaces.{IsCommandAt, IsFirstFrom, IsTableUpTo}
 use Rattle.spk_script.specs.Lines.{LogicalLine, is_command, line_numbered}
-use Rattle.spk_script.specs.Machine.{State, Arrived, arrive, arrive_at, arrive_where, arrive_ahead, line_at}
+use Rattle.spk_script.specs.States.{State}
+use Rattle.spk_script.specs.Machine.{Arrived, arrive, arrive_at, arrive_where, arrive_ahead, line_at}
 use Rattle.spk_script.specs.MachineStates.{StandsAt, arrived_to}
 
 ahead_first : (state : State) (place : ℕ) (line : LogicalLine) (lines : List LogicalLine) → is_command line ≡ true →

@@ -12,7 +12,7 @@ use Rattle.std.proofs.lemmas.Iterator.Adapters.{position_from-zero}
 use Rattle.std.proofs.lemmas.Map.Text.{btree_map_updates_text}
 use Rattle.std.proofs.lemmas.Slice.Eq.{bytes_eq-Decides}
 use Rattle.spk_script.specs.Lines.{LogicalLine}
-use Rattle.spk_script.specs.Machine.{is_label_by, label_place}
+use Rattle.spk_script.specs.Commands.Label.{is_label_by, label_place}
 use Rattle.spk_script.specs.Tables.{labels_of}
 use Rattle.spk_script.proofs.Cuts.{by_bool}
 

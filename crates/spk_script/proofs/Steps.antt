@@ -20,8 +20,8 @@ use Rattle.spk_script.proofs.Following.{then_same, then_then}
 use Rattle.spk_script.proofs.Frames.{settled_first}
 
 -- an evaluation where a number is wanted, and one after a number
-abbrev pub wanting : List Frame → ℕ → Progress
-wanting frames operand_count = record { stack = frames; operand_count = operand_count; value = None }
+abbrev pub out : List Frame → ℕ → Progress
+out frames operand_count = record { stack = frames; operand_count = operand_count; value = None }
 
 abbrev pub progress_at : List Frame → Evaluated → Progress
 progress_at frames a = record { stack = frames; operand_count = a.operand_count; value = Some a.value }
@@ -70,7 +70,7 @@ module _ (naming : Naming) (depth : ℕ) where
 
   -- what comes of parts where a number is wanted
   abbrev pub wanted : List Frame → ℕ → List Part → Result Evaluated LineFault
-  wanted frames operand_count parts = run naming depth (wanting frames operand_count) parts
+  wanted frames operand_count parts = run naming depth (out frames operand_count) parts
 
   -- after the last part
   pub nothing_after : (a : Evaluated) → after [] [] a ≡ Ok a
@@ -115,7 +115,7 @@ module _ (naming : Naming) (depth : ℕ) where
       wanted frames operand_count (part ∷ parts) ≡ value frames operand_count (Amount part.place z.millionths) >>= after frames parts
   unfolding run step value_of ◌>>=◌
   takes_number frames operand_count part parts z is =
-      ap (λ token. operand_by naming depth part.place (wanting frames operand_count) token >>= λ next. run naming depth next parts) is
+      ap (λ token. operand_by naming depth part.place (out frames operand_count) token >>= λ next. run naming depth next parts) is
       ∙ if_then (nat_lt operand_count 1000) (Ok (progress_at frames (record { value = z.millionths; operand_count = operand_count + 1 })))
       (Ok (record { value = z.millionths; operand_count = operand_count + 1 }))
       (BadFormula part.place) (λ next. run naming depth next parts) (after frames parts) refl
@@ -125,7 +125,7 @@ module _ (naming : Naming) (depth : ℕ) where
   unfolding run step value_of ◌>>=◌
   takes_name frames operand_count part parts name is =
       let named : Result Evaluated LineFault = at_reference part.place (naming (depth + depth_of frames + 1) (operand_count + 1) name) in
-      ap (λ token. operand_by naming depth part.place (wanting frames operand_count) token >>= λ next. run naming depth next parts) is
+      ap (λ token. operand_by naming depth part.place (out frames operand_count) token >>= λ next. run naming depth next parts) is
       ∙ if_then (nat_lt (depth + depth_of frames) 100 && nat_lt operand_count 1000) (named >>= λ a. Ok (progress_at frames a)) named
       (BadFormula part.place) (λ next. run naming depth next parts) (after frames parts)
       (then_then named (λ a. Ok (progress_at frames a)) (λ next. run naming depth next parts))
@@ -137,8 +137,8 @@ module _ (naming : Naming) (depth : ℕ) where
   unfolding run step value_of ◌>>=◌
   takes_minus frames operand_count part parts inner rest is inside =
       let after_minus : Result Evaluated LineFault = value_of naming (depth + depth_of frames + 1) operand_count inner in
-      ap (λ token. operand_by naming depth part.place (wanting frames operand_count) token >>= λ next. run naming depth next parts) is
-      ∙ if_then (nat_lt (depth + depth_of frames) 100) (Ok (wanting (Negation ∷ frames) operand_count)) (after_minus >>= negated)
+      ap (λ token. operand_by naming depth part.place (out frames operand_count) token >>= λ next. run naming depth next parts) is
+      ∙ if_then (nat_lt (depth + depth_of frames) 100) (Ok (out (Negation ∷ frames) operand_count)) (after_minus >>= negated)
       (BadFormula part.place) (λ next. run naming depth next parts) (after frames rest)
       (inside ∙ then_same _ after_minus _ _ (ap (λ deep. value_of naming deep operand_count inner) (one_deeper depth (depth_of frames)))
       (λ a. finishes Negation frames rest a refl)
@@ -151,8 +151,8 @@ module _ (naming : Naming) (depth : ℕ) where
   unfolding run step value_of ◌>>=◌
   takes_parenthesis frames operand_count part parts inner end rest is ends inside =
       let enclosed : Result Evaluated LineFault = value_of naming (depth + depth_of frames + 1) operand_count inner in
-      ap (λ token. operand_by naming depth part.place (wanting frames operand_count) token >>= λ next. run naming depth next parts) is
-      ∙ if_then (nat_lt (depth + depth_of frames) 100) (Ok (wanting (Parenthesis ∷ frames) operand_count)) enclosed
+      ap (λ token. operand_by naming depth part.place (out frames operand_count) token >>= λ next. run naming depth next parts) is
+      ∙ if_then (nat_lt (depth + depth_of frames) 100) (Ok (out (Parenthesis ∷ frames) operand_count)) enclosed
       (BadFormula part.place) (λ next. run naming depth next parts) (after frames rest)
       (inside ∙ then_same _ enclosed _ _ (ap (λ deep. value_of naming deep operand_count inner) (one_deeper depth (depth_of frames)))
       (λ a. closes frames end rest a ends))

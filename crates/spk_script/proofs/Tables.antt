@@ -11,7 +11,7 @@ use Rattle.std.specs.Cmp.Lexicographic.{slice_cmp}
 use Rattle.std.specs.BTreeMap.{BTreeMap, UpdatesBy, IsEmpty, IsUnchanged, get_by_text}
 use Rattle.std.specs.declared.alloc.Global.{Global}
 use Rattle.spk_script.specs.declared.variable.Variable.{Variable}
-use Rattle.spk_script.specs.Machine.{no_variables}
+use Rattle.spk_script.specs.States.{no_variables}
 use Rattle.spk_script.specs.Values.{Environment}
 use Rattle.spk_script.specs.Tables.{variables_of}
 

@@ -7,7 +7,7 @@ use Rattle.std.specs.Str.Parse.{AllDigits, IsNumeral, digits_value}
 use Rattle.std.proofs.lemmas.Bool.Decides.{nat_tests}
 use Rattle.std.proofs.lemmas.List.{take_all, drop_all}
 use Rattle.std.proofs.lemmas.Fmt.{decimal_is_IsNumeral}
-use Rattle.spk_num.specs.Decimal.{Numeral, front_digits, behind_digits, places_in, behind_places, magnitude, value_of, millionths_of, numeral}
+use Rattle.spk_num.specs.Decimal.{Numeral, leading_digits, after_digits, places_in, after_places, magnitude, value_of, millionths_of, numeral}
 
 digit_is_digit : (c : ℕ) → digit_value c < 10 → is_ascii_digit c ≡ true
 digit_is_digit c below = grind (arith, nat_tests)
@@ -19,22 +19,22 @@ all_digits : (ds : List ℕ) → AllDigits 10 ds → prefix_len is_ascii_digit d
 all_digits [] digits = refl
 all_digits (d ∷ ds) digits = rw (digit_is_digit d digits.0) (omega (arith, all_digits ds digits.1))
 
-start_of_digits : (ds : List ℕ) → AllDigits 10 ds → front_digits ds ≡ ds
+start_of_digits : (ds : List ℕ) → AllDigits 10 ds → leading_digits ds ≡ ds
 start_of_digits ds digits = take_all (prefix_len is_ascii_digit ds) ds (omega (arith, all_digits ds digits))
 
-after_all : (ds : List ℕ) → AllDigits 10 ds → behind_digits ds ≡ []
-after_all ds digits = drop_all (length (front_digits ds)) ds (omega (arith, ap length (start_of_digits ds digits)))
+after_all : (ds : List ℕ) → AllDigits 10 ds → after_digits ds ≡ []
+after_all ds digits = drop_all (length (leading_digits ds)) ds (omega (arith, ap length (start_of_digits ds digits)))
 
 abbrev unsigned_numeral : List ℕ → List ℕ → Numeral
-unsigned_numeral prefix following = record { negative = false; whole = prefix; places = places_in following; rest = behind_places following }
+unsigned_numeral prefix following = record { negative = false; whole = prefix; places = places_in following; rest = after_places following }
 
-unsigned : (d : ℕ) (ds : List ℕ) → digit_value d < 10 → numeral (d ∷ ds) ≡ unsigned_numeral (front_digits (d ∷ ds)) (behind_digits (d ∷ ds))
+unsigned : (d : ℕ) (ds : List ℕ) → digit_value d < 10 → numeral (d ∷ ds) ≡ unsigned_numeral (leading_digits (d ∷ ds)) (after_digits (d ∷ ds))
 unsigned d ds below = rw (digit_is_no_sign d below) refl
 
 numeral_of_digits : (ds : List ℕ) → IsNumeral 10 ds → numeral ds ≡ unsigned_numeral ds []
 numeral_of_digits [] digits = absurd (omega (arith, digits.0))
 numeral_of_digits (d ∷ ds) digits =
-    unsigned d ds digits.1.0 ∙ ap (λ prefix. unsigned_numeral prefix (behind_digits (d ∷ ds))) (start_of_digits (d ∷ ds) digits.1)
+    unsigned d ds digits.1.0 ∙ ap (λ prefix. unsigned_numeral prefix (after_digits (d ∷ ds))) (start_of_digits (d ∷ ds) digits.1)
     ∙ ap (unsigned_numeral (d ∷ ds)) (after_all (d ∷ ds) digits.1)
 
 -- a number with no places, which isn't too large

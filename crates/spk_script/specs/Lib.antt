@@ -1,4 +1,5 @@
 pub mod CommandPlaces
+pub mod Commands
 pub mod Cuts
 pub mod Evaluation
 pub mod Faults
@@ -13,6 +14,7 @@ pub mod MachineStates
 pub mod Parts
 pub mod References
 pub mod Scripts
+pub mod States
 pub mod Substitution
 pub mod Tables
 pub mod Values

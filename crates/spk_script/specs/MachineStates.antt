@@ -12,7 +12,8 @@ use Rattle.spk_script.specs.Lines.{LogicalLine, line_numbered}
 use Rattle.spk_num.specs.Results.{IsPlainOrMemory, result_with}
 use Rattle.spk_script.specs.Faults.{is_memory}
 use Rattle.spk_script.specs.Tables.{environment_of}
-use Rattle.spk_script.specs.Machine.{State, Arrived, arrive_at, line_at}
+use Rattle.spk_script.specs.States.{State}
+use Rattle.spk_script.specs.Machine.{Arrived, arrive_at, line_at}
 
 abbrev pub state_of : MachineState → State
 state_of machine = record {

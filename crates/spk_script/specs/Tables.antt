@@ -9,7 +9,7 @@ use Rattle.spk_script.specs.declared.variable_table.VariableTable.{VariableTable
 use Rattle.spk_script.specs.declared.variable_table.Stepped.{Stepped}
 use Rattle.spk_script.specs.declared.variable_table.Stepped.TheVariants.{Next, Exhausted, Stays, Unknown}
 use Rattle.spk_script.specs.Values.{Environment}
-use Rattle.spk_script.specs.Machine.{has_steps, next_variable}
+use Rattle.spk_script.specs.Commands.Next.{has_steps, next_variable}
 
 -- the variables of a map by their names
 unfoldable pub variables_of : BTreeMap (String Global) Variable → Environment

@@ -3,7 +3,7 @@
 ghost use Rattle.std.specs.Prelude.{◌≡◌, ℕ, false, if◌then◌else◌, List, Some, None, IfOk, MatchOption};
 ghost use Rattle.std.specs.Option.{option_or};
 ghost use Rattle.std.specs.Str.{bytes_eq};
-ghost use Rattle.spk_script.specs.Machine.{is_label_by, label_place};
+ghost use Rattle.spk_script.specs.Commands.Label.{is_label_by, label_place};
 ghost use Rattle.spk_script.specs.Tables.{labels_of};
 
 use crate::script::Line;

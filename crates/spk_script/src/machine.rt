@@ -5,7 +5,9 @@ ghost use Rattle.std.specs.List.{All};
 ghost use Rattle.std.specs.Str.{IsAscii};
 ghost use Rattle.spk_num.specs.Results.{IsPlainOrMemory};
 ghost use Rattle.spk_script.specs.Faults.{is_memory};
-ghost use Rattle.spk_script.specs.Machine.{new_state, with_settings, arrive, line_at, own_named, own_command, obeyed, read};
+ghost use Rattle.spk_script.specs.States.{new_state, with_settings};
+ghost use Rattle.spk_script.specs.Machine.{arrive, line_at, step_by, read};
+ghost use Rattle.spk_script.specs.Commands.{own_state_named, own_state};
 ghost use Rattle.spk_script.specs.Substitution.{line_words};
 ghost use Rattle.spk_script.specs.MachineStates.{state_of, arrived_to, OwnTo, own_step, read_to, StandsAt};
 
@@ -128,7 +130,7 @@ impl Machine {
     /// Obeys a command of the machine, and hands on the words of another one.
     fn obey(&mut self, number: u32, words: Texts) -> Result<Step, LineFault>
         requires { All (λ word. length word ≤ 4096) words }
-        ensures step { IsPlainOrMemory is_memory (obeyed self.old.script (state_of self.old.state) number words) (read_to (state_of self.new.state) result) }
+        ensures step { IsPlainOrMemory is_memory (step_by self.old.script (state_of self.old.state) number words) (read_to (state_of self.new.state) result) }
         ensures same { OnErr result (state_of self.new.state ≡ state_of self.old.state) }
         ensures arrivals { self.new.state.arrivals ≡ self.old.state.arrivals }
         ensures script { self.new.script ≡ self.old.script }
@@ -142,7 +144,7 @@ impl Machine {
     /// Obeys a command of the machine, where these words are one.
     fn obey_own(&mut self, words: &[Text]) -> Option<Result<(), LineFault>>
         requires { All (λ word. length word ≤ 4096) words.now }
-        ensures own { OwnTo (own_command self.old.script (state_of self.old.state) words.now) (state_of self.new.state) result }
+        ensures own { OwnTo (own_state self.old.script (state_of self.old.state) words.now) (state_of self.new.state) result }
         ensures same { MatchOption result (state_of self.new.state ≡ state_of self.old.state) (λ obeyed. OnErr obeyed (state_of self.new.state ≡ state_of self.old.state)) }
         ensures arrivals { self.new.state.arrivals ≡ self.old.state.arrivals }
         ensures script { self.new.script ≡ self.old.script }
@@ -156,16 +158,16 @@ impl Machine {
     /// Obeys a command of the machine with these words after its first one, where that names one.
     fn obey_named(&mut self, first: &Text, rest: &[Text]) -> Option<Result<(), LineFault>>
         requires { All (λ word. length word ≤ 4096) rest.now }
-        ensures own { OwnTo (own_named self.old.script (state_of self.old.state) first.now rest.now) (state_of self.new.state) result }
+        ensures own { OwnTo (own_state_named self.old.script (state_of self.old.state) first.now rest.now) (state_of self.new.state) result }
         ensures same { MatchOption result (state_of self.new.state ≡ state_of self.old.state) (λ obeyed. OnErr obeyed (state_of self.new.state ≡ state_of self.old.state)) }
         ensures arrivals { self.new.state.arrivals ≡ self.old.state.arrivals }
         ensures script { self.new.script ≡ self.old.script }
     {
         match first.as_str() {
-            "variable" => Some(self.state.make_variable(self.alloc, rest)),
-            "next" => Some(self.state.step_variable(self.alloc, rest)),
-            "label" => Some(self.state.pass_label(rest)),
-            "jump" => Some(self.state.jump(self.alloc, &self.script, rest)),
+            "variable" => Some(self.state.obey_variable(self.alloc, rest)),
+            "next" => Some(self.state.obey_next(self.alloc, rest)),
+            "label" => Some(self.state.obey_label(rest)),
+            "jump" => Some(self.state.obey_jump(self.alloc, &self.script, rest)),
             _ => None,
         }
     }

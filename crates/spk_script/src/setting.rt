@@ -1,7 +1,7 @@
 //! Variables that are there before the first line of a script.
 
 ghost use Rattle.std.specs.Prelude.{◌≡◌, IfOk};
-ghost use Rattle.spk_script.specs.Machine.{new_state, with_settings};
+ghost use Rattle.spk_script.specs.States.{new_state, with_settings};
 ghost use Rattle.spk_script.specs.MachineStates.{state_of};
 
 use crate::state::MachineState;

@@ -2,7 +2,7 @@
 
 ghost use Rattle.std.specs.Prelude.{◌≡◌, ◌≤◌, ◌∷◌, ◌++◌, [], length, IfOk, MatchOption, Some, None};
 ghost use Rattle.std.specs.Bool.{MatchBool};
-ghost use Rattle.spk_script.specs.Machine.{has_steps, next_variable};
+ghost use Rattle.spk_script.specs.Commands.Next.{has_steps, next_variable};
 
 use spk_num::text::Text;
 use std::alloc::{AllocError, Global};

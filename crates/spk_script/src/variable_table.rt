@@ -5,7 +5,7 @@ ghost use Rattle.std.specs.Map.{update};
 ghost use Rattle.std.specs.Option.{option_map};
 ghost use Rattle.std.specs.Str.{bytes_eq};
 ghost use Rattle.spk_script.specs.Tables.{environment_of, Goes};
-ghost use Rattle.spk_script.specs.Machine.{no_variables};
+ghost use Rattle.spk_script.specs.States.{no_variables};
 
 use crate::variable::Variable;
 use spk_num::text::Text;

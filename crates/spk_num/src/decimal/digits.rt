@@ -4,55 +4,55 @@ ghost use Rattle.std.specs.Prelude.{◌≡◌, ◌+◌, ◌<◌, ◌≤◌, ◌*
 ghost use Rattle.std.specs.Char.{IsAsciiDigit};
 ghost use Rattle.std.specs.List.{list_any};
 ghost use Rattle.std.specs.Str.Parse.{digits_value};
-ghost use Rattle.spk_num.specs.Decimal.{is_negative, behind_sign, front_digits, behind_digits, places_in, behind_places, signed};
+ghost use Rattle.spk_num.specs.Decimal.{is_negative, after_sign, leading_digits, after_digits, places_in, after_places, signed};
 
 // The largest number, and then the same in millionths.
 const LARGEST_WHOLE: u64 = 1_000_000_000_000;
 
 const LARGEST_MILLIONTHS: u64 = LARGEST_WHOLE * 1_000_000;
 
-// Whether the text begins with a minus, and what stands behind it.
+// Whether the text begins with a minus, and what stands after it.
 pub(crate) fn split_sign(text: &[u8]) -> (bool, &[u8])
     ensures negative { result.0 ≡ is_negative text.now }
-    ensures behind { result.1.now ≡ behind_sign text.now }
+    ensures rest { result.1.now ≡ after_sign text.now }
     ensures within { length result.1.now ≤ length text.now }
 {
     match text {
-        [b'-', behind @ ..] => (true, behind),
+        [b'-', rest @ ..] => (true, rest),
         _ => (false, text),
     }
 }
 
 fn count_digits(text: &[u8]) -> usize
-    ensures { result ≡ length (front_digits text.now) }
+    ensures { result ≡ length (leading_digits text.now) }
 {
     text.iter().take_while(|byte| byte.is_ascii_digit()).count()
 }
 
-// The digits in front, and what stands behind them.
+// The leading digits, and what stands after them.
 pub(crate) fn split_digits(text: &[u8]) -> (&[u8], &[u8])
-    ensures front { result.0.now ≡ front_digits text.now }
-    ensures behind { result.1.now ≡ behind_digits text.now }
+    ensures leading { result.0.now ≡ leading_digits text.now }
+    ensures rest { result.1.now ≡ after_digits text.now }
     ensures digits { EachIndex result.0.now (λ k. IsAsciiDigit (slice_index result.0.now k)) }
     ensures within { length result.1.now ≤ length text.now }
 {
     text.split_at(count_digits(text))
 }
 
-// The digits behind a dot, and what stands behind them. With no dot there are none.
+// The digits after a dot, and what stands after them. With no dot there are none.
 pub(crate) fn split_places(text: &[u8]) -> (&[u8], &[u8])
     ensures places { result.0.now ≡ places_in text.now }
-    ensures behind { result.1.now ≡ behind_places text.now }
+    ensures rest { result.1.now ≡ after_places text.now }
     ensures digits { EachIndex result.0.now (λ k. IsAsciiDigit (slice_index result.0.now k)) }
     ensures within { length result.1.now ≤ length text.now }
 {
     match text {
-        [b'.', behind @ ..] => split_digits(behind),
+        [b'.', places @ ..] => split_digits(places),
         _ => text.split_at(0),
     }
 }
 
-// Whether a digit behind the sixth place isn't 0.
+// Whether a digit after the sixth place isn't 0.
 pub(crate) fn passes_six_places(places: &[u8]) -> bool
     ensures { result ≡ list_any (λ d. not (d == 48)) (drop 6 places.now) }
 {

@@ -117,9 +117,9 @@ impl SessionState {
         let Some(domain) = self.domain.take() else {
             return Ok(());
         };
-        let Finished { domain, told } = run(domain, plan, room, world);
+        let Finished { domain, written } = run(domain, plan, room, world);
         self.domain = Some(domain);
-        told?;
+        written?;
         Ok(())
     }
 

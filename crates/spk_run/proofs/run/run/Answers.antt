@@ -10,11 +10,11 @@ pub loop-cycle-init : goal.loop-cycle-init
 loop-cycle-init g c =
     let has = has_done_telling c.args.plan.now c.args.domain 0 c.new-running.result c.tell.new.self (c.new-running.ensures.done c.args.plan.now) in
     let log = ap (λ (output : Output). output.log) c.new-running.ensures.output in
-    let header = c.tell.ensures _ _ _ _ (starts_telling (g.W.World.state c.args.world.now) c.args.room.output.log c.args.plan.now c.args.domain c.new-running.result.teller c.new-running.ensures.told log) in
+    let header = c.tell.ensures _ _ _ _ (starts_telling (g.W.World.state c.args.world.now) c.args.room.output.log c.args.plan.now c.args.domain c.new-running.result.teller c.new-running.ensures.written log) in
     record {
       on = record {
         has_done = c.tell-2.ensures.done c.args.plan.now c.args.domain 0 has;
-        goes = c.tell-2.ensures.told c.args.plan.now c.args.domain 0 _ _ _ _ c.requires.one_sector (elapsed_none c.args.plan.now) has header;
+        goes = c.tell-2.ensures.telling c.args.plan.now c.args.domain 0 _ _ _ _ c.requires.one_sector (elapsed_none c.args.plan.now) has header;
       };
       ready = c.tell-2.ensures.ready;
       time = c.tell-2.ensures.time ∙ c.new-running.ensures.time;
@@ -39,4 +39,4 @@ returns-clause-domain g c =
 pub returns-clause-wrote : goal.returns-clause-wrote
 returns-clause-wrote g c =
     let past : cycles c.args.plan.now ≤ c.loop-cycle.cycle = rw c.cycles-cycle-end.ensures at c.loop-cycle-test.false in
-    rw c.finish.ensures.told (ends_telling _ _ _ _ _ _ (texts_none c.args.room.output.log c.args.plan.now c.args.domain c.loop-cycle.cycle past) c.loop-cycle.invariant.on.goes)
+    rw c.finish.ensures.written (ends_telling _ _ _ _ _ _ (texts_none c.args.room.output.log c.args.plan.now c.args.domain c.loop-cycle.cycle past) c.loop-cycle.invariant.on.goes)

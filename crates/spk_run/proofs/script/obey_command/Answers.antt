@@ -1,4 +1,4 @@
-use Rattle.spk_script.specs.Machine.{new_state as new_machine}
+use Rattle.spk_script.specs.States.{new_state as new_machine}
 use Rattle.spk_run.proofs.Obeying.{command_whole, command_refused, command_stopped, ended_later}
 use Rattle.spk_run.proofs.script.obey_command.Goals as goal
 

@@ -1,5 +1,5 @@
 use Rattle.std.proofs.Common.{◌≡◌, ◌-◌, Ok, arith}
-use Rattle.spk_script.specs.Machine.{with_settings, new_state as new_machine}
+use Rattle.spk_script.specs.States.{with_settings, new_state as new_machine}
 use Rattle.spk_script.specs.MachineStates.{state_of}
 use Rattle.spk_world.proofs.Loops.{goes_from_start, goes_after, goes_no_further, goes_to_end}
 use Rattle.spk_run.proofs.Obeying.{stops_for_memory, next_of, nothing_arrived, since_start, since_wrote, ending_since}

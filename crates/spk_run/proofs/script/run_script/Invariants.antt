@@ -1,5 +1,5 @@
 use Rattle.std.proofs.Common.{◌≤◌, ◌-◌}
-use Rattle.spk_script.specs.Machine.{new_state as new_machine, with_settings}
+use Rattle.spk_script.specs.States.{new_state as new_machine, with_settings}
 use Rattle.spk_script.specs.MachineStates.{state_of}
 use Rattle.spk_world.proofs.Loops.{GoesOn}
 use Rattle.spk_run.specs.Faults.{fault_stop}

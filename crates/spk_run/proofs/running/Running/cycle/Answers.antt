@@ -16,7 +16,7 @@ returns-then-is_mark-clause-runs g c = λ start log domain on.
     let left = rw (texts_more log c.args.plan.now domain c.args.cycle c.requires.cycle (sym c.is_mark.ensures ∙ c.if-is_mark.true), ← c.turn.ensures.teller) at on.goes in
     record {
       has_done = c.tell.ensures.done c.args.plan.now domain (c.args.cycle + 1) turned;
-      goes = c.tell.ensures.told c.args.plan.now domain (c.args.cycle + 1) start log _ _ c.requires.one_sector c.elapsed-done.ensures.elapsed turned left;
+      goes = c.tell.ensures.telling c.args.plan.now domain (c.args.cycle + 1) start log _ _ c.requires.one_sector c.elapsed-done.ensures.elapsed turned left;
     }
 
 pub returns-else-is_mark-clause-runs : goal.returns-else-is_mark-clause-runs

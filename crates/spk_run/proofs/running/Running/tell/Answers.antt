@@ -5,8 +5,8 @@ use Rattle.spk_run.proofs.RunSteps.{told_text}
 use Rattle.spk_run.specs.Runs.{mark_text}
 use Rattle.spk_run.proofs.running.Running.tell.Goals as goal
 
-pub returns-clause-told : goal.returns-clause-told
-returns-clause-told g c = λ settings domain done start log whole rest one elapsed_is has on.
+pub returns-clause-telling : goal.returns-clause-telling
+returns-clause-telling g c = λ settings domain done start log whole rest one elapsed_is has on.
     let text : mark_text settings domain done ≡ c.deref.result.now =
     told_text settings domain done c.args.ticks c.args.self.now one elapsed_is has ∙ sym (c.deref.ensures.value ∙ (rw c.plus.ensures at c.write.ensures.text)) in
     c.tell.ensures start log whole rest (subst (λ (t : List ℕ). GoesOnTelling start (g.W.World.state c.args.world.now) log c.args.self.now.teller whole (prints_then log t rest)) text on)

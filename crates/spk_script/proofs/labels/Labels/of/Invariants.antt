@@ -1,6 +1,6 @@
 use Rattle.std.proofs.Common.{◌≡◌, ℕ, List, drop}
 use Rattle.std.specs.Option.{option_or}
-use Rattle.spk_script.specs.Machine.{label_place}
+use Rattle.spk_script.specs.Commands.Label.{label_place}
 use Rattle.spk_script.specs.Tables.{labels_of}
 use Rattle.spk_script.proofs.LabelPlaces.{label_from}
 use Rattle.spk_script.proofs.labels.Labels.of.Given as goal

@@ -1,5 +1,5 @@
 use Rattle.std.proofs.Common.{◌≡◌, drop}
-use Rattle.spk_script.specs.Machine.{new_state, with_settings}
+use Rattle.spk_script.specs.States.{new_state, with_settings}
 use Rattle.spk_script.specs.MachineStates.{state_of}
 use Rattle.spk_script.proofs.state.MachineState.with_settings.Given as goal
 

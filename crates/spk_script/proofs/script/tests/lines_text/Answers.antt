@@ -1,7 +1,7 @@
 use Rattle.std.proofs.Common.{◌≡◌, IsSome, ap}
 use Rattle.spk_script.specs.Lines.{LogicalLine, line_numbered}
 use Rattle.spk_script.proofs.Scripts.{line_is_there}
-use Rattle.spk_script.proofs.script.tests.told.Goals as goal
+use Rattle.spk_script.proofs.script.tests.lines_text.Goals as goal
 
 pub raw-byte-items-requires : goal.raw-byte-items-requires
 raw-byte-items-requires c =
