@@ -1,16 +1,18 @@
 -- Regions as they are stored, and as contracts see them.
-use Rattle.std.proofs.Common.{◌≡◌, ℕ, ◌+◌, ◌<◌, ◌≤◌, Bool, true, false, cond, not, List, [], ◌∷◌, ◌++◌, map, length, get_or, Option, Some, None, IfSome, refl, sym, ap, ◌∙◌, arith, rules}
-use Rattle.std.specs.List.{find, position, position_or_len, prefix_len}
+use Rattle.std.proofs.Common.{◌≡◌, ℕ, suc, ◌+◌, ◌<◌, ◌≤◌, Bool, true, false, cond, not, List, [], ◌∷◌, ◌++◌, map, length, get_or, Option, Some, None, IfSome, refl, sym, ap, ◌∙◌, arith, rules}
+use Rattle.std.specs.List.{All, find, position, position_or_len, prefix_len}
 use Rattle.std.specs.Option.{option_and_then, option_map}
 use Rattle.std.specs.Str.{bytes_eq}
 use Rattle.std.proofs.lemmas.List.{length-map, get_or-map, map_push, get_or_append_left, get_or_push}
 use Rattle.std.proofs.lemmas.List.Quantifiers.{position-Some}
 use Rattle.std.proofs.lemmas.Slice.Eq.{bytes_eq-Decides}
-use Rattle.spk_num.specs.declared.shape.Shape.TheVariants.{Union}
+use Rattle.spk_num.specs.declared.shape.Shape.{Shape}
+use Rattle.spk_num.specs.declared.shape.Shape.TheVariants.{Block as BlockShape, Sphere, Cylinder, Union, Intersect}
 use Rattle.spk_lattice.specs.declared.regions.block.Block.{Block}
 use Rattle.spk_lattice.specs.declared.regions.region.NamedShape.{NamedShape}
 use Rattle.spk_lattice.specs.declared.regions.region.Region.{Region}
-use Rattle.spk_lattice.specs.Regions.{block_in, block_named, name_at, named_shapes, place_of}
+use Rattle.spk_lattice.specs.Regions.{block_in, block_named, IsNearBlock, name_at, named_shapes, place_of}
+use Rattle.spk_lattice.specs.Shapes.{IsInRange}
 
 pub length_named : (regions : List Region) → length (named_shapes regions) ≡ length regions
 length_named regions = length-map regions (λ (region : Region). region.named)
@@ -69,3 +71,24 @@ name_found shown name None is = tt
 name_found shown name (Some place) is =
     let found = position-Some (λ (region : NamedShape). bytes_eq region.name name) shown place some_region (sym is) in
     get_or-map (λ (region : NamedShape). region.name) shown place some_region [] found.0 ∙ (bytes_eq-Decides (get_or shown place some_region).name name).0 found.1
+
+-- a block that is found has bounds in range
+near_shape : (shape : Shape) → IsInRange shape → IfSome (block_in shape) IsNearBlock
+near_shape (BlockShape lo hi) near = near
+near_shape (Sphere centre radius) near = tt
+near_shape (Cylinder axis centre radius lo hi) near = tt
+near_shape (Union parts) near = tt
+near_shape (Intersect parts) near = tt
+
+near_chosen : (test : Bool) (region : Region) (rest : Option Region) → IsInRange region.named.shape →
+    IfSome (option_and_then (λ (region : Region). block_in region.named.shape) rest) IsNearBlock →
+    IfSome (option_and_then (λ (region : Region). block_in region.named.shape) (cond test (Some region) rest)) IsNearBlock
+near_chosen true region rest near later = near_shape region.named.shape near
+near_chosen false region rest near later = later
+
+pub near_block : (regions : List Region) (test : Region → Bool) → All (λ (region : Region). IsInRange region.named.shape) regions →
+    IfSome (option_and_then (λ (region : Region). block_in region.named.shape) (find test regions)) IsNearBlock
+near_block [] test near = tt
+near_block (region ∷ regions) test near =
+    let later : All (λ (region : Region). IsInRange region.named.shape) regions = λ k d h. near (suc k) d (omega arith) in
+    near_chosen (test region) region (find test regions) (near 0 region (omega arith)) (near_block regions test later)

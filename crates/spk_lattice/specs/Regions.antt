@@ -11,7 +11,7 @@ use Rattle.spk_lattice.specs.declared.regions.fault.RegionFault.{RegionFault}
 use Rattle.spk_lattice.specs.declared.regions.fault.RegionFault.TheVariants.{Twice, Unknown, Empty, TooManyParts, TooManyRegions, Memory}
 use Rattle.spk_lattice.specs.declared.regions.region.NamedShape.{NamedShape}
 use Rattle.spk_lattice.specs.declared.regions.region.Region.{Region}
-use Rattle.spk_lattice.specs.Shapes.{parts_of, shape_holds, is_empty, IsInRange}
+use Rattle.spk_lattice.specs.Shapes.{parts_of, shape_holds, is_empty, AreNearBounds, IsInRange}
 
 -- the place of the region with a name, counted from 0
 abbrev pub place_of : List NamedShape → List ℕ → Option ℕ
@@ -25,6 +25,10 @@ name_at regions place = get_or (map (λ (region : NamedShape). region.name) regi
 abbrev pub block_in : Shape → Option Block
 block_in (BlockShape lo hi) = Some (record { lo = lo; hi = hi })
 block_in shape = None
+
+-- the bounds of a block are in range
+abbrev pub IsNearBlock : Block → Type 0
+IsNearBlock block = AreNearBounds block.lo × AreNearBounds block.hi
 
 abbrev pub block_named : List NamedShape → List ℕ → Option Block
 block_named regions name = option_and_then (λ (region : NamedShape). block_in region.shape) (find (λ (region : NamedShape). bytes_eq region.name name) regions)

@@ -2,6 +2,7 @@
 
 ghost use Rattle.std.specs.Prelude.{◌≡◌, ◌≤◌, ◌+◌, ◌*◌, ◌∷◌, [], pos, All};
 ghost use Rattle.spk_lattice.specs.Layout.{IsLattice, lattice_of, sites_of, dimensions_of, basis_of};
+ghost use Rattle.spk_lattice.specs.Shapes.{IsPoint};
 ghost use Rattle.spk_lattice.specs.Neighbours.{IsId, IsSpot, spot_in, id_of, spot_of, place_of, point_of, coordinates, ids_of, nb};
 
 use crate::grid::{Grid, Spot};
@@ -164,8 +165,8 @@ impl Lattice {
         reach::neighbours(&self.grid, &self.table, id)
     }
 
-    /// The point of a site, in half units: twice its cell, and its basis point.
-    pub fn point(&self, id: u32) -> [i64; 3]
+    /// The three coordinates of a site, in half units.
+    fn coordinates(&self, id: u32) -> [i64; 3]
         requires { IsId self.now id }
         ensures { result ≡ coordinates (point_of self.now id) }
     {
@@ -176,6 +177,16 @@ impl Lattice {
             half_units(spot.y, half.y),
             half_units(spot.z, half.z),
         ]
+    }
+
+    /// The point of a site, in half units: twice its cell, and its basis point.
+    pub fn point(&self, id: u32) -> [i64; 3]
+        requires { IsId self.now id }
+        ensures point { result ≡ coordinates (point_of self.now id) }
+        ensures near { IsPoint result }
+    {
+        self.known();
+        self.coordinates(id)
     }
 }
 
@@ -218,6 +229,7 @@ mod tests {
         assert_eq!(rt; lattice.style() == Style::Line2, true);
         assert_eq!(rt; lattice.extents(), [10, 1, 1]);
         assert_eq!(rt; lattice.dimensions(), 1);
+        assert_eq!(rt; crate::dimensions(Style::Fcc), 3);
         lattice.known();
         assert_eq!(rt; lattice.sites(), 10);
     }

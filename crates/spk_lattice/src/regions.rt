@@ -4,7 +4,7 @@ ghost use Rattle.std.specs.Prelude.{◌≡◌, ◌<◌, [], length, Some, None, 
 ghost use Rattle.std.specs.Option.{option_map};
 ghost use Rattle.spk_num.specs.Results.{IsPlainOrMemory, result_with};
 ghost use Rattle.spk_lattice.specs.Shapes.{parts_of, IsInRange, IsPoint};
-ghost use Rattle.spk_lattice.specs.Regions.{place_of, name_at, block_named, holds, unknown_part, fault_of, added, is_memory, ArePlaces};
+ghost use Rattle.spk_lattice.specs.Regions.{place_of, name_at, block_named, IsNearBlock, holds, unknown_part, fault_of, added, is_memory, ArePlaces};
 
 mod answer;
 mod block;
@@ -79,7 +79,8 @@ impl Regions {
 
     /// The block with this name.
     pub fn block(&self, name: &Text) -> Option<Block>
-        ensures { result ≡ block_named self.now name.now }
+        ensures block { result ≡ block_named self.now name.now }
+        ensures near { IfSome result IsNearBlock }
     {
         block_named(&self.regions, name)
     }
@@ -119,7 +120,12 @@ impl Regions {
     }
 
     /// The places of the parts of a region that is to be added.
-    fn judge(&self, alloc: Global, name: &Text, shape: &Shape) -> Result<Vec<usize>, RegionFault>
+    fn places_for(
+        &self,
+        alloc: Global,
+        name: &Text,
+        shape: &Shape,
+    ) -> Result<Vec<usize>, RegionFault>
         ensures known { IfOk result (λ places. fault_of self.now name.now shape.now ≡ None) }
         ensures places { IfOk result (λ places. ArePlaces self.now (length self.now) (parts_of shape.now) places.items) }
         ensures fault { IfErr result (λ fault. is_memory fault ≡ false → fault_of self.now name.now shape.now ≡ Some fault) }
@@ -141,13 +147,22 @@ impl Regions {
         Ok(places)
     }
 
+    /// Why a region can't be added.
+    pub fn judge(&self, alloc: Global, name: &Text, shape: &Shape) -> Result<(), RegionFault>
+        ensures ok { IfOk result (λ _. fault_of self.now name.now shape.now ≡ None) }
+        ensures fault { IfErr result (λ fault. is_memory fault ≡ false → fault_of self.now name.now shape.now ≡ Some fault) }
+    {
+        self.places_for(alloc, name, shape)?;
+        Ok(())
+    }
+
     /// Adds a region after the others. The regions stay as they were where it isn't added.
     pub fn add(&mut self, alloc: Global, name: &Text, shape: &Shape) -> Result<(), RegionFault>
         requires { IsInRange shape.now }
         ensures plain { IsPlainOrMemory is_memory (added self.old name.now shape.now) (result_with self.new result) }
         ensures kept { OnErr result (self.new ≡ self.old) }
     {
-        let places = self.judge(alloc, name, shape)?;
+        let places = self.places_for(alloc, name, shape)?;
         let name = Text::copy(alloc, name.as_str())?;
         let shape = copy_shape(alloc, shape)?;
         let named = NamedShape { name, shape };

@@ -1,6 +1,7 @@
 //! What is particular to each style: the one table that knows them.
 
 ghost use Rattle.std.specs.Prelude.{◌≡◌, ◌≤◌};
+ghost use Rattle.spk_lattice.specs.Layout.{dimensions_of};
 ghost use Rattle.spk_lattice.specs.Styles.{row_of};
 
 use spk_num::Style;
@@ -98,4 +99,12 @@ pub fn style_row(style: Style) -> StyleRow
             ],
         },
     }
+}
+
+/// How many dimensions a style uses: x alone, x and y, or all three.
+pub fn dimensions(style: Style) -> u32
+    ensures count { result ≡ dimensions_of style }
+    ensures few { result ≤ 3 }
+{
+    style_row(style).dimensions
 }

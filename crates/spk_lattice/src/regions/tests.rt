@@ -147,6 +147,9 @@ fn refuses(rt: HostRuntime) -> Result<(), Fail> {
     assert!(rt; matches!(fault, Err(RegionFault::Twice)), "{fault:?}");
     let fault = add(&mut regions, alloc, "e", &empty);
     assert!(rt; matches!(fault, Err(RegionFault::Empty)), "{fault:?}");
+    let name = Text::copy(alloc, "e")?;
+    let fault = regions.judge(alloc, &name, &empty);
+    assert!(rt; matches!(fault, Err(RegionFault::Empty)), "{fault:?}");
     let unknown = Shape::Union {
         parts: texts(alloc, &["z"])?,
     };
