@@ -1,9 +1,11 @@
 -- Values that were read are in the ranges of their kinds.
-use Rattle.std.proofs.Common.{◌≡◌, ℕ, ◌+◌, ◌-◌, ◌≤◌, Bool, true, false, not, ◌&&◌, cond, List, [], ◌∷◌, ◌++◌, length, drop, Option, Some, None, Result, Ok, Err, ℤ, pos, negsuc, refl, sym, ap, subst, ◌∙◌, arith, min, append-nil, append_assoc}
+use Rattle.std.proofs.Common.{◌≡◌, ℕ, suc, ◌+◌, ◌-◌, ◌≤◌, Bool, true, false, not, ◌&&◌, cond, List, [], ◌∷◌, ◌++◌, length, drop, Option, Some, None, Result, Ok, Err, ℤ, pos, negsuc, refl, sym, ap, subst, ◌∙◌, arith, min, append-nil, append_assoc}
 use Rattle.std.specs.Prelude.{nat_le, int_lt, slice_get}
-use Rattle.std.specs.Option.{unwrap_or, option_and_then}
+use Rattle.std.specs.Option.{IfSome, unwrap_or, option_and_then}
+use Rattle.std.specs.Str.{bytes_eq}
 use Rattle.std.proofs.lemmas.Bool.{false≢true, and_parts, not-true, leb-true, ltb-false, le-ltb}
-use Rattle.std.proofs.lemmas.List.{length-append}
+use Rattle.std.proofs.lemmas.List.{length-append, length-drop}
+use Rattle.std.proofs.lemmas.Slice.Eq.{bytes_eq-Decides}
 use Rattle.spk_num.specs.Decimal.{millionths_of}
 use Rattle.spk_num.specs.Names.{is_name, is_file_name}
 use Rattle.spk_num.specs.Results.{◌>>=◌}
@@ -17,9 +19,9 @@ use Rattle.spk_cmds.specs.declared.value.Value.{Value}
 use Rattle.spk_cmds.specs.declared.value.Value.TheVariants as value
 use Rattle.spk_cmds.specs.declared.value.Reading.{Reading}
 use Rattle.spk_cmds.specs.Kinds.{Kind, OneOf, WholeNumber, WholeUpToNext, DecimalNumber, DecimalBuiltTo, BoundNumber, NameWord, FileWord, AnyWord, is_open, formed, whole_or_out, is_inside, inside_or_out, decimal_in, next_number, built_to, valued}
-use Rattle.spk_cmds.specs.Forms.{Form, is_count, is_tail_count, number_said, all_formed, all_valued, tail_formed, tail_valued, words_formed, words_valued, form_read}
-use Rattle.spk_cmds.specs.Values.{number_by, decimal_by, bound_by, word_by}
-use Rattle.spk_cmds.specs.WellFormed.{IsFromTo, IsWithin, IsBoundWithin, IsName, IsFileName}
+use Rattle.spk_cmds.specs.Forms.{Form, Keyword, Tail, NoTail, Pairs, Optional, Counted, UpTo, is_count, is_tail_count, number_said, all_formed, each_formed, stands_in, keyword_kind, keyword_formed, pair_formed, pairs_formed, tail_formed, all_valued, each_valued, pairs_valued, tail_valued, words_formed, words_valued, form_read}
+use Rattle.spk_cmds.specs.Values.{number_by, decimal_by, bound_by, word_by, words_of, after_keyword, decimal_after_by, word_after_by}
+use Rattle.spk_cmds.specs.WellFormed.{IsFromTo, IsWithin, IsBoundWithin, IsName, IsFileName, Each}
 
 -- what a chain that gives a value is made of
 pub bind_ok : {A B : Type 0} (first : Result A CommandFault) (next : A → Result B CommandFault) (b : B) → first >>= next ≡ Ok b → (a : A) × ((first ≡ Ok a) × (next a ≡ Ok b))
@@ -192,25 +194,140 @@ all_are_in before (kind ∷ kinds) (word ∷ words) values some forms is =
       subst (λ n. AreIn n kinds values) (length_more before found.0) later,
     )
 
+-- the value after a keyword is of its kind, where that stands
+abbrev pub IsGiven : Kind → Option Value → Type 0
+IsGiven (DecimalNumber low high) given = IfSome (decimal_after_by given) (IsWithin low high)
+IsGiven (DecimalBuiltTo low high built) given = IfSome (decimal_after_by given) (IsWithin low high)
+IsGiven NameWord given = IfSome (word_after_by given) IsName
+IsGiven FileWord given = IfSome (word_after_by given) IsFileName
+IsGiven kind given = IfSome given (λ v. IsOf kind (Some v))
+
+none_given : (kind : Kind) → IsGiven kind None
+none_given NameWord = tt
+none_given kind = tt
+
+one_given : (kind : Kind) (v : Value) → IsOf kind (Some v) → IsGiven kind (Some v)
+one_given NameWord v of = of
+one_given kind v of = of
+
+first_or_later : (kind : Kind) (test : Bool) (v : Value) (later : Option Value) → (test ≡ true → IsOf kind (Some v)) → IsGiven kind later → IsGiven kind (cond test (Some v) later)
+first_or_later kind true v later of given = one_given kind v (of refl)
+first_or_later kind false v later of given = given
+
+-- so is each in the values of pairs
+abbrev AfterKeywords : List Keyword → List Value → Type 0
+AfterKeywords keywords more = (word : List ℕ) → IsGiven (keyword_kind keywords word) (after_keyword more word)
+
+pairs_given : (keywords : List Keyword) (unbuilt : List (List ℕ)) (earlier : List (List ℕ)) (before : List Value) (words : List (List ℕ)) (values : List Value) →
+    pairs_formed keywords unbuilt earlier words ≡ Ok tt → pairs_valued before keywords words ≡ Ok values → (more : List Value) × ((values ≡ before ++ more) × AfterKeywords keywords more)
+pairs_given keywords unbuilt earlier before [] values forms is =
+    let its : before ≡ values = cc in ([], (sym its ∙ sym (append-nil before), λ word. none_given (keyword_kind keywords word)))
+pairs_given keywords unbuilt earlier before (word ∷ []) values forms is =
+    let its : before ≡ values = cc in ([], (sym its ∙ sym (append-nil before), λ word. none_given (keyword_kind keywords word)))
+pairs_given keywords unbuilt earlier before (word ∷ given ∷ pairs) values forms is =
+    let kind = keyword_kind keywords word in
+    let again = stands_in earlier word in
+    let form = bind_ok (pair_formed keywords unbuilt again word given) (λ _. pairs_formed keywords unbuilt (earlier ++ word ∷ given ∷ []) pairs) tt forms in
+    let its_form = bind_ok (keyword_formed keywords unbuilt again word) (λ _. formed kind given) form.0 form.1.0 in
+    let found = bind_ok (valued kind given pairs) (λ v. pairs_valued (before ++ value.Word word ∷ [] ++ v ∷ []) keywords pairs) values is in
+    let later = pairs_given keywords unbuilt (earlier ++ word ∷ given ∷ []) (before ++ value.Word word ∷ [] ++ found.0 ∷ []) pairs values form.1.1 found.1.1 in
+    let of = value_is_of kind given pairs found.0 its_form.1.1 found.1.0 in
+    let at_end = later.1.0 ∙ append_assoc (before ++ value.Word word ∷ []) (found.0 ∷ []) later.0 ∙ append_assoc before (value.Word word ∷ []) (found.0 ∷ later.0) in (
+      value.Word word ∷ found.0 ∷ later.0,
+      (
+        at_end,
+        λ other.
+            first_or_later (keyword_kind keywords other) (bytes_eq word other) found.0 (after_keyword later.0 other)
+            (λ same. subst (λ w. IsOf (keyword_kind keywords w) (Some found.0)) ((bytes_eq-Decides word other).0 same) of)
+            (later.1.1 other),
+      ),
+    )
+
+-- the same of each keyword of a list, by the kinds that all of them have
+abbrev AreGiven : List Keyword → List Keyword → List Value → Type 0
+AreGiven all [] more = Unit {0}
+AreGiven all (keyword ∷ keywords) more = IsGiven (keyword_kind all keyword.word) (after_keyword more keyword.word) × AreGiven all keywords more
+
+all_given : (all keywords : List Keyword) (more : List Value) → AfterKeywords all more → AreGiven all keywords more
+all_given all [] more given = tt
+all_given all (keyword ∷ keywords) more given = (given keyword.word, all_given all keywords more given)
+
+-- values of one kind
+abbrev pub AreEach : Kind → List Value → Type 0
+AreEach NameWord values = Each IsName (words_of values)
+AreEach FileWord values = Each IsFileName (words_of values)
+AreEach kind values = Each (λ v. IsOf kind (Some v)) values
+
+none_each : (kind : Kind) → AreEach kind []
+none_each NameWord = tt
+none_each kind = tt
+
+one_more_each : (kind : Kind) (v : Value) (values : List Value) → IsOf kind (Some v) → AreEach kind values → AreEach kind (v ∷ values)
+one_more_each NameWord v values of each = (of, each)
+one_more_each kind v values of each = (of, each)
+
+each_are : (kind : Kind) (before : List Value) (words : List (List ℕ)) (values : List Value) → each_formed kind words ≡ Ok tt → each_valued before kind words ≡ Ok values →
+    (more : List Value) × ((values ≡ before ++ more) × (length more ≡ length words) × AreEach kind more)
+each_are kind before [] values forms is = let its : before ≡ values = cc in ([], (sym its ∙ sym (append-nil before), refl, none_each kind))
+each_are kind before (word ∷ words) values forms is =
+    let form = bind_ok (formed kind word) (λ _. each_formed kind words) tt forms in
+    let found = bind_ok (valued kind word words) (λ v. each_valued (before ++ v ∷ []) kind words) values is in
+    let later = each_are kind (before ++ found.0 ∷ []) words values form.1.1 found.1.1 in
+    let of = value_is_of kind word words found.0 form.1.0 found.1.0 in
+    let one_more : length (found.0 ∷ later.0) ≡ length (word ∷ words) = ap suc later.1.1 in
+    (found.0 ∷ later.0, (later.1.0 ∙ append_assoc before (found.0 ∷ []) later.0, one_more, one_more_each kind found.0 later.0 of later.1.2))
+
+-- values of a tail are of its kinds; nothing is said of optional words yet
+abbrev pub AreInTail : Tail → List Value → Type 0
+AreInTail NoTail more = Unit {0}
+AreInTail (Pairs keywords unbuilt) more = AreGiven keywords keywords more
+AreInTail (Optional kinds) more = Unit {0}
+AreInTail (Counted kind) more = AreEach kind more
+AreInTail (UpTo most kind) more = (length more ≤ most) × AreEach kind more
+
+tail_is_in : (tail : Tail) (said : Option ℕ) (words : List (List ℕ)) (more : List Value) → is_tail_count tail said (length words) ≡ true → tail_formed tail words ≡ Ok tt →
+    tail_valued tail words ≡ Ok more → AreInTail tail more
+tail_is_in NoTail said words more count forms is = tt
+tail_is_in (Optional kinds) said words more count forms is = tt
+tail_is_in (Pairs keywords unbuilt) said words more count forms is =
+    let found = pairs_given keywords unbuilt [] [] words more forms is in
+    subst (AreGiven keywords keywords) (sym found.1.0) (all_given keywords keywords found.0 found.1.1)
+tail_is_in (Counted kind) said words more count forms is =
+    let found = each_are kind [] words more forms is in subst (AreEach kind) (sym found.1.0) found.1.2
+tail_is_in (UpTo most kind) said words more count forms is =
+    let found = each_are kind [] words more forms is in
+    let fits = leb-true (length words) most count in
+    let fewer : length found.0 ≤ most = omega arith in
+    subst (AreInTail (UpTo most kind)) (sym found.1.0) (fewer, found.1.2)
+
 -- what a form reads is of its kinds
-counted_some : (form : Form) (words : List (List ℕ)) → is_count form words ≡ true → length form.kinds ≤ length words
-counted_some form words is =
-    let both = and_parts (nat_le (length form.kinds) (length words)) (is_tail_count form.tail (number_said (length form.kinds) words) (length words - length form.kinds)) is in
-    leb-true (length form.kinds) (length words) both.0
+abbrev pub IsReadBy : Form → Reading → Type 0
+IsReadBy form reading = AreIn 0 form.kinds reading.values × AreInTail form.tail reading.more
 
-values_of : Result Reading CommandFault → List Value
-values_of (Ok reading) = reading.values
-values_of (Err fault) = []
+tail_counted : (form : Form) (words : List (List ℕ)) → is_count form words ≡ true →
+    (length form.kinds ≤ length words) × (is_tail_count form.tail (number_said (length form.kinds) words) (length (drop (length form.kinds) words)) ≡ true)
+tail_counted form words is =
+    let said = number_said (length form.kinds) words in
+    let both = and_parts (nat_le (length form.kinds) (length words)) (is_tail_count form.tail said (length words - length form.kinds)) is in
+    (leb-true (length form.kinds) (length words) both.0, subst (λ n. is_tail_count form.tail said n ≡ true) (sym (length-drop (length form.kinds) words)) both.1)
 
-pub read_is_in : (form : Form) (words : List (List ℕ)) (reading : Reading) → form_read form words ≡ Ok reading → AreIn 0 form.kinds reading.values
-unfolding form_read values_of
+read_of : Result Reading CommandFault → Reading
+read_of (Ok reading) = reading
+read_of (Err fault) = record { values = []; more = [] }
+
+pub read_is_in : (form : Form) (words : List (List ℕ)) (reading : Reading) → form_read form words ≡ Ok reading → IsReadBy form reading
+unfolding form_read read_of
 read_is_in form words reading is =
     let rest = drop (length form.kinds) words in
     let steps = bind_ok _ (λ _. words_valued form words) reading is in
     let count = bind_ok _ (λ _. words_formed form words) steps.0 steps.1.0 in
     let test = passed (is_count form words) (tt {0}) count.0 WrongCount count.1.0 in
+    let counts = tail_counted form words test.0 in
     let forms = bind_ok (all_formed form.kinds words) (λ _. tail_formed form.tail rest) steps.0 count.1.1 in
     let values = bind_ok (all_valued [] form.kinds words) (λ values. (tail_valued form.tail rest >>= λ more. Ok (record { values = values; more = more }))) reading steps.1.1 in
     let more = bind_ok (tail_valued form.tail rest) (λ more. Ok (record { values = values.0; more = more })) reading values.1.1 in
-    let its : values.0 ≡ reading.values = ap values_of more.1.1 in
-    subst (AreIn 0 form.kinds) its (all_are_in [] form.kinds words values.0 (counted_some form words test.0) forms.1.0 values.1.0)
+    let its : record { values = values.0; more = more.0 } ≡ reading = ap read_of more.1.1 in
+    subst (IsReadBy form) its (
+      all_are_in [] form.kinds words values.0 counts.0 forms.1.0 values.1.0,
+      tail_is_in form.tail (number_said (length form.kinds) words) rest more.0 counts.1 forms.1.1 more.1.0,
+    )

@@ -1,6 +1,6 @@
 -- Each command that the table reads is well-formed.
-use Rattle.std.proofs.Common.{◌≡◌, ℕ, Bool, true, false, cond, List, [], ◌∷◌, Option, Some, None, Result, Ok, Err, ap, subst, refl}
-use Rattle.std.specs.Prelude.{slice_get}
+use Rattle.std.proofs.Common.{◌≡◌, ℕ, ◌≤◌, Bool, true, false, cond, List, [], ◌∷◌, Option, Some, None, Result, Ok, Err, ap, subst, refl, arith}
+use Rattle.std.specs.Prelude.{codes, slice_get}
 use Rattle.std.specs.Result.{IfOk}
 use Rattle.std.specs.Str.{bytes_eq}
 use Rattle.spk_num.specs.Results.{IsPlainOrMemory}
@@ -13,13 +13,14 @@ use Rattle.spk_cmds.specs.Faults.{is_memory}
 use Rattle.spk_cmds.specs.Kinds.{is_among}
 use Rattle.spk_cmds.specs.Forms.{Form, form_read}
 use Rattle.spk_cmds.specs.Makers.{made}
+use Rattle.spk_cmds.specs.Values.{word_at}
 use Rattle.spk_cmds.specs.Table as table
 use Rattle.spk_cmds.specs.WellFormed.{IsWellFormed}
-use Rattle.spk_cmds.proofs.ReadFacts.{AreIn, bind_ok, read_is_in}
+use Rattle.spk_cmds.proofs.ReadFacts.{IsReadBy, bind_ok, read_is_in}
 
 -- what values of a form's kinds make is well-formed
 abbrev pub IsSound : Form → Type 0
-IsSound form = (reading : Reading) → AreIn 0 form.kinds reading.values → IsWellFormed (made form.maker reading)
+IsSound form = (reading : Reading) → IsReadBy form reading → IsWellFormed (made form.maker reading)
 
 abbrev pub AreSoundStyles : List table.Styled → Type 0
 AreSoundStyles [] = Unit {0}
@@ -37,10 +38,19 @@ AreSoundRows (row ∷ rows) = AreSoundForms row.forms × AreSoundRows rows
 three : ◌≡◌ {A = ℕ} 3 3
 three = refl
 
--- the same of the whole table, in which a new row changes nothing here
+-- a cylinder's axis is one of three, whatever its word is
+one_of_three : (first second : Bool) → cond first 0 (cond second 1 2) ≤ 2
+one_of_three true second = omega arith
+one_of_three false true = omega arith
+one_of_three false false = omega arith
+
+cylinder_sound : IsSound table.cylinder
+cylinder_sound reading read = let axis = word_at reading.values 2 in assumption (three, one_of_three (bytes_eq axis (codes "x")) (bytes_eq axis (codes "y")))
+
+-- The same of the whole table. A new row changes nothing here, unless a word chooses a part of its command.
 table_sound : AreSoundRows table.table
 unfolding table.table
-table_sound = assumption three
+table_sound = assumption (three, cylinder_sound)
 
 -- so is the form that words find
 chosen : {A : Type 0} (P : A → Type 0) (test : Bool) (a b : A) (other : Option A) → P a → (other ≡ Some b → P b) → cond test (Some a) other ≡ Some b → P b

@@ -1,36 +1,34 @@
 -- The command that the values of its words make.
-use Rattle.std.specs.Prelude.{false, List, [], ◌∷◌, None}
-use Rattle.spk_num.specs.declared.shape.Shape.TheVariants.{Block}
-use Rattle.spk_cmds.specs.declared.command.SetValue.{SetValue}
-use Rattle.spk_cmds.specs.declared.command.SetValue.TheVariants.{Value, Range}
+pub mod Region
+pub mod Set
+use Rattle.std.specs.Prelude.{false, [], ◌∷◌}
+use Rattle.spk_num.specs.declared.shape.Shape.TheVariants.{Union, Intersect}
+use Rattle.spk_cmds.specs.declared.command.SetValue.TheVariants.{Value, Unique}
 use Rattle.spk_cmds.specs.declared.command.Command.{Command}
 use Rattle.spk_cmds.specs.declared.command.Command.TheVariants as command
 use Rattle.spk_cmds.specs.declared.form.Maker.{Maker}
 use Rattle.spk_cmds.specs.declared.form.Maker.TheVariants as maker
-use Rattle.spk_cmds.specs.declared.value.Value as value
 use Rattle.spk_cmds.specs.declared.value.Reading.{Reading}
-use Rattle.spk_cmds.specs.Values.{number_at, decimal_at, bound_at, word_at}
-
--- `region ID block B B B B B B`
-abbrev pub block : List value.Value → Command
-block values =
-    command.Region (word_at values 0)
-    (Block (bound_at values 2 ∷ bound_at values 4 ∷ bound_at values 6 ∷ []) (bound_at values 3 ∷ bound_at values 5 ∷ bound_at values 7 ∷ []))
-
--- `set L value W` and `set L range W W`
-abbrev pub set_to : SetValue → Command
-set_to given = command.Set given None None
+use Rattle.spk_cmds.specs.Values.{number_at, decimal_at, word_at, words_of}
+use Rattle.spk_cmds.specs.Makers.Region.{block, sphere, cylinder, region_of}
+use Rattle.spk_cmds.specs.Makers.Set.{range_of, set_to}
 
 abbrev pub made : Maker → Reading → Command
 made maker.Seed reading = command.Seed (number_at reading.values 0)
 made (maker.App style) reading = command.App style
+made maker.Dimension reading = command.Dimension (number_at reading.values 0)
 made (maker.Lattice style) reading = command.Lattice style (decimal_at reading.values 1)
 made maker.Boundary reading = command.Boundary (false ∷ false ∷ false ∷ [])
-made maker.Block reading = block reading.values
+made maker.Block reading = region_of reading.values (block reading.values)
+made maker.Sphere reading = region_of reading.values (sphere reading.values)
+made maker.Cylinder reading = region_of reading.values (cylinder reading.values)
+made maker.Union reading = region_of reading.values (Union (words_of reading.more))
+made maker.Intersect reading = region_of reading.values (Intersect (words_of reading.more))
 made maker.CreateBox reading = command.CreateBox (word_at reading.values 0)
 made maker.CreateSites reading = command.CreateSites
-made maker.SetValue reading = set_to (Value (number_at reading.values 2))
-made maker.SetRange reading = set_to (Range (number_at reading.values 2) (number_at reading.values 3))
+made maker.SetValue reading = set_to (Value (number_at reading.values 2)) reading.more
+made maker.SetRange reading = set_to (range_of reading.values) reading.more
+made maker.SetUnique reading = set_to Unique reading.more
 made (maker.Solve style) reading = command.Solve style
 made maker.Temperature reading = command.Temperature (decimal_at reading.values 0)
 made maker.Stats reading = command.Stats (decimal_at reading.values 0)

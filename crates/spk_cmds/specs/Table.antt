@@ -3,7 +3,8 @@
 use Rattle.std.specs.Prelude.{ℕ, if◌then◌else◌, List, [], ◌∷◌, slice_get, codes, pos, neg_ℤ, Option, Some, None, Result, Ok, Err}
 use Rattle.std.specs.Str.{bytes_eq}
 use Rattle.spk_num.specs.Results.{◌>>=◌}
-use Rattle.spk_num.specs.declared.style.Style.TheVariants.{Line2}
+use Rattle.spk_num.specs.declared.style.Style.{Style}
+use Rattle.spk_num.specs.declared.style.Style.TheVariants.{Line2, Sq4, Sq8, Tri, Sc6, Sc26, Bcc, Fcc}
 use Rattle.spk_cmds.specs.declared.options.Echo.TheVariants as echo
 use Rattle.spk_cmds.specs.declared.command.AppStyle.TheVariants.{Ising}
 use Rattle.spk_cmds.specs.declared.command.SolveStyle.TheVariants.{Linear}
@@ -13,7 +14,7 @@ use Rattle.spk_cmds.specs.declared.command.CommandFault.TheVariants.{UnknownComm
 use Rattle.spk_cmds.specs.declared.form.Maker.{Maker}
 use Rattle.spk_cmds.specs.declared.form.Maker.TheVariants as maker
 use Rattle.spk_cmds.specs.Kinds.{Kind, OneOf, WholeNumber, WholeUpToNext, DecimalNumber, DecimalBuiltTo, BoundNumber, NameWord, AnyWord, is_among}
-use Rattle.spk_cmds.specs.Forms.{Form, Tail, NoTail, Pairs, form_read}
+use Rattle.spk_cmds.specs.Forms.{Form, Keyword, Tail, NoTail, Pairs, Counted, form_read}
 use Rattle.spk_cmds.specs.Makers.{made}
 
 -- a form with its deciding word
@@ -67,23 +68,46 @@ words_alone maker kinds = record { maker = maker; kinds = kinds; tail = NoTail }
 abbrev pub periodic : Kind
 periodic = OneOf (codes "p" ∷ []) (codes "n" ∷ [])
 
+abbrev pub lattice : Style → Form
+lattice style = words_alone (maker.Lattice style) (AnyWord ∷ DecimalNumber (pos 1) (pos 1000000000000) ∷ [])
+
+-- a bound of a region, and a coordinate of its centre
 abbrev pub side : Kind
 side = BoundNumber (neg_ℤ (pos 10000000000000)) (pos 10000000000000)
+
+abbrev pub coordinate : Kind
+coordinate = DecimalNumber (neg_ℤ (pos 10000000000000)) (pos 10000000000000)
+
+abbrev pub radius : Kind
+radius = DecimalNumber (pos 0) (pos 10000000000000)
+
+abbrev pub axis : Kind
+axis = OneOf (codes "x" ∷ codes "y" ∷ codes "z" ∷ []) []
 
 abbrev pub block : Form
 block = words_alone maker.Block (NameWord ∷ AnyWord ∷ side ∷ side ∷ side ∷ side ∷ side ∷ side ∷ [])
 
+abbrev pub sphere : Form
+sphere = words_alone maker.Sphere (NameWord ∷ AnyWord ∷ coordinate ∷ coordinate ∷ coordinate ∷ radius ∷ [])
+
+abbrev pub cylinder : Form
+cylinder = words_alone maker.Cylinder (NameWord ∷ AnyWord ∷ axis ∷ coordinate ∷ coordinate ∷ radius ∷ side ∷ side ∷ [])
+
+-- a region of parts, of which the third word says how many there are
+abbrev pub region_of_parts : Maker → Form
+region_of_parts maker = record { maker = maker; kinds = NameWord ∷ AnyWord ∷ WholeNumber 0 4294967295 ∷ []; tail = Counted NameWord }
+
 abbrev pub site : Kind
 site = OneOf (codes "site" ∷ codes "i1" ∷ []) []
 
-abbrev pub set_keywords : Tail
-set_keywords = Pairs [] (codes "fraction" ∷ codes "region" ∷ [])
+abbrev pub keyword : List ℕ → Kind → Keyword
+keyword word kind = record { word = word; kind = kind }
 
-abbrev pub set_value : Form
-set_value = record { maker = maker.SetValue; kinds = site ∷ AnyWord ∷ WholeNumber 0 4294967295 ∷ []; tail = set_keywords }
+abbrev pub set_pairs : Tail
+set_pairs = Pairs (keyword (codes "fraction") (DecimalNumber (pos 1) (pos 1000000)) ∷ keyword (codes "region") NameWord ∷ []) []
 
-abbrev pub set_range : Form
-set_range = record { maker = maker.SetRange; kinds = site ∷ AnyWord ∷ WholeUpToNext 0 4294967295 ∷ WholeNumber 0 4294967295 ∷ []; tail = set_keywords }
+abbrev pub set_form : Maker → List Kind → Form
+set_form maker kinds = record { maker = maker; kinds = site ∷ AnyWord ∷ kinds; tail = set_pairs }
 
 abbrev pub unbuilt : List ℕ → Row
 unbuilt name = record { name = name; forms = Unbuilt }
@@ -105,22 +129,47 @@ echo_styles =
     ∷ styled (codes "both") (words_alone (maker.SetEcho echo.Both) (AnyWord ∷ []))
     ∷ []
 
-abbrev pub unbuilt_lattices : List (List ℕ)
-unbuilt_lattices = codes "sq/4n" ∷ codes "sq/8n" ∷ codes "tri" ∷ codes "sc/6n" ∷ codes "sc/26n" ∷ codes "bcc" ∷ codes "fcc" ∷ []
+abbrev pub lattices : List Styled
+lattices =
+    styled (codes "line/2n") (lattice Line2)
+    ∷ styled (codes "sq/4n") (lattice Sq4)
+    ∷ styled (codes "sq/8n") (lattice Sq8)
+    ∷ styled (codes "tri") (lattice Tri)
+    ∷ styled (codes "sc/6n") (lattice Sc6)
+    ∷ styled (codes "sc/26n") (lattice Sc26)
+    ∷ styled (codes "bcc") (lattice Bcc)
+    ∷ styled (codes "fcc") (lattice Fcc)
+    ∷ []
+
+abbrev pub shapes : List Styled
+shapes =
+    styled (codes "block") block
+    ∷ styled (codes "sphere") sphere
+    ∷ styled (codes "cylinder") cylinder
+    ∷ styled (codes "union") (region_of_parts maker.Union)
+    ∷ styled (codes "intersect") (region_of_parts maker.Intersect)
+    ∷ []
+
+abbrev pub sets : List Styled
+sets =
+    styled (codes "value") (set_form maker.SetValue (WholeNumber 0 4294967295 ∷ []))
+    ∷ styled (codes "range") (set_form maker.SetRange (WholeUpToNext 0 4294967295 ∷ WholeNumber 0 4294967295 ∷ []))
+    ∷ styled (codes "unique") (set_form maker.SetUnique [])
+    ∷ []
 
 -- the commands in the order of the manual
 unfoldable pub table : List Row
 table =
     one (codes "seed") (words_alone maker.Seed (WholeNumber 1 2147483646 ∷ []))
     ∷ several (codes "app_style") 0 (styled (codes "ising") (words_alone (maker.App Ising) (AnyWord ∷ [])) ∷ []) (codes "ising/single" ∷ codes "potts" ∷ codes "potts/neighonly" ∷ codes "diffusion" ∷ [])
-    ∷ unbuilt (codes "dimension")
-    ∷ several (codes "lattice") 0 (styled (codes "line/2n") (words_alone (maker.Lattice Line2) (AnyWord ∷ DecimalNumber (pos 1) (pos 1000000000000) ∷ [])) ∷ []) unbuilt_lattices
+    ∷ one (codes "dimension") (words_alone maker.Dimension (WholeNumber 1 3 ∷ []))
+    ∷ several (codes "lattice") 0 lattices []
     ∷ one (codes "boundary") (words_alone maker.Boundary (periodic ∷ periodic ∷ periodic ∷ []))
     ∷ unbuilt (codes "processors")
-    ∷ several (codes "region") 1 (styled (codes "block") block ∷ []) (codes "sphere" ∷ codes "cylinder" ∷ codes "union" ∷ codes "intersect" ∷ [])
+    ∷ several (codes "region") 1 shapes []
     ∷ one (codes "create_box") (words_alone maker.CreateBox (NameWord ∷ []))
     ∷ one (codes "create_sites") (words_alone maker.CreateSites (OneOf (codes "box" ∷ []) [] ∷ []))
-    ∷ several (codes "set") 1 (styled (codes "value") set_value ∷ styled (codes "range") set_range ∷ []) (codes "unique" ∷ [])
+    ∷ several (codes "set") 1 sets []
     ∷ unbuilt (codes "read_sites")
     ∷ unbuilt (codes "write_restart")
     ∷ unbuilt (codes "read_restart")

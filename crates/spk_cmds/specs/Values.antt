@@ -1,5 +1,5 @@
 -- The values of a command's words, by their places.
-use Rattle.std.specs.Prelude.{ℕ, pos, if◌then◌else◌, List, [], ◌∷◌, slice_get, Option, Some, None}
+use Rattle.std.specs.Prelude.{ℕ, pos, if◌then◌else◌, List, [], ◌∷◌, map, slice_get, Option, Some, None}
 use Rattle.std.specs.Str.{bytes_eq}
 use Rattle.spk_num.specs.declared.decimal.Dec.{Dec}
 use Rattle.spk_num.specs.declared.shape.Bound.{Bound}
@@ -40,6 +40,10 @@ bound_at values place = bound_by (slice_get values place)
 
 abbrev pub word_at : List Value → ℕ → List ℕ
 word_at values place = word_by (slice_get values place)
+
+-- the words of all values
+abbrev pub words_of : List Value → List (List ℕ)
+words_of values = map (λ v. word_by (Some v)) values
 
 -- the value after a keyword, in pairs of a keyword and its value
 abbrev pub after_keyword : List Value → List ℕ → Option Value

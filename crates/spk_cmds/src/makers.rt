@@ -1,50 +1,29 @@
 //! The command that the values of its words make.
 
+mod region;
+mod set;
+
 ghost use Rattle.std.specs.Prelude.{◌≡◌, IfOk};
-ghost use Rattle.spk_cmds.specs.Makers.{block, set_to, made};
+ghost use Rattle.spk_cmds.specs.Makers.{made};
 
 use crate::command::{Command, SetValue};
 use crate::form::Maker;
-use crate::value::{Reading, Values};
-use spk_num::shape::Shape;
+use crate::value::Reading;
+use region::{block, cylinder, intersect_of, region_of, sphere, union_of};
+use set::{range_of, set_to};
 use spk_num::text::Text;
 use std::alloc::{AllocError, Global};
-
-/// `region ID block B B B B B B`.
-fn block(alloc: Global, values: &Values) -> Result<Command, AllocError>
-    ensures { IfOk result (λ command. command ≡ block values.now) }
-{
-    let name = Text::copy(alloc, values.word(0))?;
-    Ok(Command::Region {
-        name,
-        shape: Shape::Block {
-            lo: [values.bound(2), values.bound(4), values.bound(6)],
-            hi: [values.bound(3), values.bound(5), values.bound(7)],
-        },
-    })
-}
-
-/// `set L value W` and `set L range W W`.
-fn set_to(value: SetValue) -> Command
-    ensures { result ≡ set_to value }
-{
-    Command::Set {
-        value,
-        fraction: None,
-        region: None,
-    }
-}
 
 /// The command that values make.
 pub fn made(alloc: Global, maker: Maker, reading: &Reading) -> Result<Command, AllocError>
     ensures { IfOk result (λ command. command ≡ made maker reading.now) }
 {
-    let values = &reading.values;
+    let Reading { values, more } = reading;
+    let (number, decimal) = (values.number(0), values.decimal(0));
     let command = match maker {
-        Maker::Seed => Command::Seed {
-            seed: values.number(0),
-        },
+        Maker::Seed => Command::Seed { seed: number },
         Maker::App(style) => Command::App { style },
+        Maker::Dimension => Command::Dimension { d: number },
         Maker::Lattice(style) => Command::Lattice {
             style,
             scale: values.decimal(1),
@@ -52,23 +31,22 @@ pub fn made(alloc: Global, maker: Maker, reading: &Reading) -> Result<Command, A
         Maker::Boundary => Command::Boundary {
             faces: [false, false, false],
         },
-        Maker::Block => block(alloc, values)?,
+        Maker::Block => region_of(alloc, values, block(values))?,
+        Maker::Sphere => region_of(alloc, values, sphere(values))?,
+        Maker::Cylinder => region_of(alloc, values, cylinder(values))?,
+        Maker::Union => region_of(alloc, values, union_of(alloc, more)?)?,
+        Maker::Intersect => region_of(alloc, values, intersect_of(alloc, more)?)?,
         Maker::CreateBox => Command::CreateBox {
             region: Text::copy(alloc, values.word(0))?,
         },
         Maker::CreateSites => Command::CreateSites,
-        Maker::SetValue => set_to(SetValue::Value(values.number(2))),
-        Maker::SetRange => set_to(SetValue::Range(values.number(2), values.number(3))),
+        Maker::SetValue => set_to(alloc, SetValue::Value(values.number(2)), more)?,
+        Maker::SetRange => set_to(alloc, range_of(values), more)?,
+        Maker::SetUnique => set_to(alloc, SetValue::Unique, more)?,
         Maker::Solve(style) => Command::Solve { style },
-        Maker::Temperature => Command::Temperature {
-            t: values.decimal(0),
-        },
-        Maker::Stats => Command::Stats {
-            delta: values.decimal(0),
-        },
-        Maker::Run => Command::Run {
-            length: values.decimal(0),
-        },
+        Maker::Temperature => Command::Temperature { t: decimal },
+        Maker::Stats => Command::Stats { delta: decimal },
+        Maker::Run => Command::Run { length: decimal },
         Maker::Print => Command::Print {
             text: Text::copy(alloc, values.word(0))?,
         },

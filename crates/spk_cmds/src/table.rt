@@ -5,20 +5,214 @@ ghost use Rattle.spk_cmds.specs.Table.{table};
 ghost use Rattle.spk_cmds.specs.TableViews.{rows_seen};
 
 use crate::command::{AppStyle, SolveStyle};
-use crate::form::{Form, Forms, Kind, Maker, Row, Styled, Tail};
+use crate::form::{Form, Forms, Keyword, Kind, Maker, Row, Styled, Tail};
 use crate::options::Echo;
 use spk_num::style::Style;
 
 /// A word for a periodic face, or for one that isn't periodic.
 const FACE: Kind = Kind::OneOf(&["p"], &["n"]);
 
+/// The words after `lattice`.
+const STYLE_AND_SCALE: &[Kind] = &[Kind::AnyWord, Kind::DecimalNumber(1, 1_000_000_000_000)];
+
+const LATTICES: &[Styled] = &[
+    Styled {
+        word: "line/2n",
+        form: Form {
+            maker: Maker::Lattice(Style::Line2),
+            kinds: STYLE_AND_SCALE,
+            tail: Tail::NoTail,
+        },
+    },
+    Styled {
+        word: "sq/4n",
+        form: Form {
+            maker: Maker::Lattice(Style::Sq4),
+            kinds: STYLE_AND_SCALE,
+            tail: Tail::NoTail,
+        },
+    },
+    Styled {
+        word: "sq/8n",
+        form: Form {
+            maker: Maker::Lattice(Style::Sq8),
+            kinds: STYLE_AND_SCALE,
+            tail: Tail::NoTail,
+        },
+    },
+    Styled {
+        word: "tri",
+        form: Form {
+            maker: Maker::Lattice(Style::Tri),
+            kinds: STYLE_AND_SCALE,
+            tail: Tail::NoTail,
+        },
+    },
+    Styled {
+        word: "sc/6n",
+        form: Form {
+            maker: Maker::Lattice(Style::Sc6),
+            kinds: STYLE_AND_SCALE,
+            tail: Tail::NoTail,
+        },
+    },
+    Styled {
+        word: "sc/26n",
+        form: Form {
+            maker: Maker::Lattice(Style::Sc26),
+            kinds: STYLE_AND_SCALE,
+            tail: Tail::NoTail,
+        },
+    },
+    Styled {
+        word: "bcc",
+        form: Form {
+            maker: Maker::Lattice(Style::Bcc),
+            kinds: STYLE_AND_SCALE,
+            tail: Tail::NoTail,
+        },
+    },
+    Styled {
+        word: "fcc",
+        form: Form {
+            maker: Maker::Lattice(Style::Fcc),
+            kinds: STYLE_AND_SCALE,
+            tail: Tail::NoTail,
+        },
+    },
+];
+
 /// A bound of a region.
 const SIDE: Kind = Kind::BoundNumber(-10_000_000_000_000, 10_000_000_000_000);
+
+/// A coordinate of a region's centre.
+const COORDINATE: Kind = Kind::DecimalNumber(-10_000_000_000_000, 10_000_000_000_000);
+
+const RADIUS: Kind = Kind::DecimalNumber(0, 10_000_000_000_000);
+
+/// The words before the parts of a region. The last says how many parts there are.
+const NAME_SHAPE_AND_COUNT: &[Kind] = &[
+    Kind::NameWord,
+    Kind::AnyWord,
+    Kind::WholeNumber(0, 4_294_967_295),
+];
+
+const SHAPES: &[Styled] = &[
+    Styled {
+        word: "block",
+        form: Form {
+            maker: Maker::Block,
+            kinds: &[
+                Kind::NameWord,
+                Kind::AnyWord,
+                SIDE,
+                SIDE,
+                SIDE,
+                SIDE,
+                SIDE,
+                SIDE,
+            ],
+            tail: Tail::NoTail,
+        },
+    },
+    Styled {
+        word: "sphere",
+        form: Form {
+            maker: Maker::Sphere,
+            kinds: &[
+                Kind::NameWord,
+                Kind::AnyWord,
+                COORDINATE,
+                COORDINATE,
+                COORDINATE,
+                RADIUS,
+            ],
+            tail: Tail::NoTail,
+        },
+    },
+    Styled {
+        word: "cylinder",
+        form: Form {
+            maker: Maker::Cylinder,
+            kinds: &[
+                Kind::NameWord,
+                Kind::AnyWord,
+                Kind::OneOf(&["x", "y", "z"], &[]),
+                COORDINATE,
+                COORDINATE,
+                RADIUS,
+                SIDE,
+                SIDE,
+            ],
+            tail: Tail::NoTail,
+        },
+    },
+    Styled {
+        word: "union",
+        form: Form {
+            maker: Maker::Union,
+            kinds: NAME_SHAPE_AND_COUNT,
+            tail: Tail::Counted(Kind::NameWord),
+        },
+    },
+    Styled {
+        word: "intersect",
+        form: Form {
+            maker: Maker::Intersect,
+            kinds: NAME_SHAPE_AND_COUNT,
+            tail: Tail::Counted(Kind::NameWord),
+        },
+    },
+];
 
 /// A word for the values of sites.
 const SITE: Kind = Kind::OneOf(&["site", "i1"], &[]);
 
-const SET_KEYWORDS: Tail = Tail::Pairs(&[], &["fraction", "region"]);
+const SET_PAIRS: Tail = Tail::Pairs(
+    &[
+        Keyword {
+            word: "fraction",
+            kind: Kind::DecimalNumber(1, 1_000_000),
+        },
+        Keyword {
+            word: "region",
+            kind: Kind::NameWord,
+        },
+    ],
+    &[],
+);
+
+const SETS: &[Styled] = &[
+    Styled {
+        word: "value",
+        form: Form {
+            maker: Maker::SetValue,
+            kinds: &[SITE, Kind::AnyWord, Kind::WholeNumber(0, 4_294_967_295)],
+            tail: SET_PAIRS,
+        },
+    },
+    Styled {
+        word: "range",
+        form: Form {
+            maker: Maker::SetRange,
+            kinds: &[
+                SITE,
+                Kind::AnyWord,
+                Kind::WholeUpToNext(0, 4_294_967_295),
+                Kind::WholeNumber(0, 4_294_967_295),
+            ],
+            tail: SET_PAIRS,
+        },
+    },
+    Styled {
+        word: "unique",
+        form: Form {
+            maker: Maker::SetUnique,
+            kinds: &[SITE, Kind::AnyWord],
+            tail: SET_PAIRS,
+        },
+    },
+];
 
 const ROWS: &[Row] = &[
     Row {
@@ -46,22 +240,15 @@ const ROWS: &[Row] = &[
     },
     Row {
         name: "dimension",
-        forms: Forms::Unbuilt,
+        forms: Forms::One(Form {
+            maker: Maker::Dimension,
+            kinds: &[Kind::WholeNumber(1, 3)],
+            tail: Tail::NoTail,
+        }),
     },
     Row {
         name: "lattice",
-        forms: Forms::Several(
-            0,
-            &[Styled {
-                word: "line/2n",
-                form: Form {
-                    maker: Maker::Lattice(Style::Line2),
-                    kinds: &[Kind::AnyWord, Kind::DecimalNumber(1, 1_000_000_000_000)],
-                    tail: Tail::NoTail,
-                },
-            }],
-            &["sq/4n", "sq/8n", "tri", "sc/6n", "sc/26n", "bcc", "fcc"],
-        ),
+        forms: Forms::Several(0, LATTICES, &[]),
     },
     Row {
         name: "boundary",
@@ -77,27 +264,7 @@ const ROWS: &[Row] = &[
     },
     Row {
         name: "region",
-        forms: Forms::Several(
-            1,
-            &[Styled {
-                word: "block",
-                form: Form {
-                    maker: Maker::Block,
-                    kinds: &[
-                        Kind::NameWord,
-                        Kind::AnyWord,
-                        SIDE,
-                        SIDE,
-                        SIDE,
-                        SIDE,
-                        SIDE,
-                        SIDE,
-                    ],
-                    tail: Tail::NoTail,
-                },
-            }],
-            &["sphere", "cylinder", "union", "intersect"],
-        ),
+        forms: Forms::Several(1, SHAPES, &[]),
     },
     Row {
         name: "create_box",
@@ -117,33 +284,7 @@ const ROWS: &[Row] = &[
     },
     Row {
         name: "set",
-        forms: Forms::Several(
-            1,
-            &[
-                Styled {
-                    word: "value",
-                    form: Form {
-                        maker: Maker::SetValue,
-                        kinds: &[SITE, Kind::AnyWord, Kind::WholeNumber(0, 4_294_967_295)],
-                        tail: SET_KEYWORDS,
-                    },
-                },
-                Styled {
-                    word: "range",
-                    form: Form {
-                        maker: Maker::SetRange,
-                        kinds: &[
-                            SITE,
-                            Kind::AnyWord,
-                            Kind::WholeUpToNext(0, 4_294_967_295),
-                            Kind::WholeNumber(0, 4_294_967_295),
-                        ],
-                        tail: SET_KEYWORDS,
-                    },
-                },
-            ],
-            &["unique"],
-        ),
+        forms: Forms::Several(1, SETS, &[]),
     },
     Row {
         name: "read_sites",

@@ -1,11 +1,11 @@
 //! Tests: a command with each kind of value, and each kind and tail of a form with its refusals.
 
-use crate::command::{Command, CommandFault, SetValue};
+use crate::command::{Command, CommandFault};
 use crate::commands::command_of;
 use crate::form::{Form, Keyword, Kind, Maker, Tail};
 use crate::reader::read_form;
 use crate::value::{Value, Values};
-use spk_num::shape::{Bound, Shape};
+use spk_num::shape::Bound;
 use spk_num::text::Text;
 use std::alloc::{AllocError, Global};
 use std::test::Fail;
@@ -66,22 +66,6 @@ fn reading_text(alloc: Global, form: &Form, line: &str) -> Result<String, AllocE
     }
 }
 
-/// A region by its name and its shape.
-fn region_text(alloc: Global, name: &Text, shape: &Shape) -> Result<String, AllocError> {
-    match shape {
-        Shape::Block { lo, hi } => format!(in alloc; "region {} {lo:?} {hi:?}", name.as_str()),
-        _ => String::from_str(alloc, "another shape"),
-    }
-}
-
-/// Which values `set` gives.
-fn set_text(alloc: Global, value: SetValue) -> Result<String, AllocError> {
-    match value {
-        SetValue::Range(low, high) => format!(in alloc; "set range {low} {high}"),
-        _ => String::from_str(alloc, "other values"),
-    }
-}
-
 /// A command by its fields.
 fn command_text(alloc: Global, command: &Command) -> Result<String, AllocError> {
     match command {
@@ -89,8 +73,14 @@ fn command_text(alloc: Global, command: &Command) -> Result<String, AllocError> 
         Command::Lattice { style, scale } => {
             format!(in alloc; "lattice {style:?} {}", scale.millionths)
         }
-        Command::Region { name, shape } => region_text(alloc, name, shape),
-        Command::Set { value, .. } => set_text(alloc, *value),
+        Command::Region { name, shape } => {
+            format!(in alloc; "region {} {shape:?}", name.as_str())
+        }
+        Command::Set {
+            value,
+            fraction,
+            region,
+        } => format!(in alloc; "set {value:?} {fraction:?} {region:?}"),
         Command::Print { text } => format!(in alloc; "print {}", text.as_str()),
         Command::SetEcho { echo } => format!(in alloc; "echo {echo:?}"),
         _ => String::from_str(alloc, "another command"),
@@ -214,19 +204,55 @@ fn finds_values_after_keywords(rt: HostRuntime) -> Result<(), Fail> {
 fn makes_commands(rt: HostRuntime) -> Result<(), Fail> {
     for (line, wanted) in [
         ("seed 007", "seed 7"),
-        ("lattice line/2n 0.5", "lattice Line2 500000"),
-        ("set i1 range 2 3", "set range 2 3"),
+        ("dimension 4", "OutOfRange 4"),
+        ("lattice sc/26n 0.5", "lattice Sc26 500000"),
+        ("set i1 range 2 3", "set Range(2, 3) None None"),
+        (
+            "set i1 value 7 region r fraction 0.5",
+            "set Value(7) Some(Dec { millionths: 500000 }) Some(Text { string: \"r\" })",
+        ),
+        (
+            "set i1 unique fraction 1 region r",
+            "set Unique Some(Dec { millionths: 1000000 }) Some(Text { string: \"r\" })",
+        ),
+        ("set i1 value 1 fraction x", "BadNumber x"),
         ("echo both", "echo Both"),
         ("", "UnknownCommand "),
         ("app_style potts x y", "NotBuilt potts"),
-        ("set i1 value 1 fraction x", "NotBuilt fraction"),
     ] {
         let text = outcome_text(rt.alloc(), line)?;
         assert_eq!(rt; text.as_str(), wanted, "at {line}");
     }
-    let text = outcome_text(rt.alloc(), "region b block 0 INF EDGE 1 -1 1")?;
-    let wanted =
-        "region b [At(Dec { millionths: 0 }), Open, At(Dec { millionths: -1000000 })] [Open, At(Dec { millionths: 1000000 }), At(Dec { millionths: 1000000 })]";
-    assert_eq!(rt; text.as_str(), wanted);
+    Ok(())
+}
+
+#[test]
+fn makes_regions(rt: HostRuntime) -> Result<(), Fail> {
+    for (line, wanted) in [
+        (
+            "region b block 0 INF EDGE 1 -1 1",
+            "region b Block { lo: [At(Dec { millionths: 0 }), Open, At(Dec { millionths: -1000000 })], hi: [Open, At(Dec { millionths: 1000000 }), At(Dec { millionths: 1000000 })] }",
+        ),
+        (
+            "region s sphere 0 -1 2 0.5",
+            "region s Sphere { centre: [Dec { millionths: 0 }, Dec { millionths: -1000000 }, Dec { millionths: 2000000 }], radius: Dec { millionths: 500000 } }",
+        ),
+        (
+            "region c cylinder z 1 2 3 EDGE 4",
+            "region c Cylinder { axis: 2, centre: [Dec { millionths: 1000000 }, Dec { millionths: 2000000 }], radius: Dec { millionths: 3000000 }, lo: Open, hi: At(Dec { millionths: 4000000 }) }",
+        ),
+        ("region c cylinder w x 2 3 4 5", "UnknownStyle w"),
+        (
+            "region u union 2 a b",
+            "region u Union { parts: Texts { texts: [Text { string: \"a\" }, Text { string: \"b\" }] } }",
+        ),
+        (
+            "region i intersect 0",
+            "region i Intersect { parts: Texts { texts: [] } }",
+        ),
+    ] {
+        let text = outcome_text(rt.alloc(), line)?;
+        assert_eq!(rt; text.as_str(), wanted, "at {line}");
+    }
     Ok(())
 }

@@ -1,11 +1,12 @@
 //! The values that the words of a command are.
 
 ghost use Rattle.std.specs.Prelude.{◌≡◌, ◌++◌, ◌∷◌, [], IfOk, map, option_map};
-ghost use Rattle.spk_cmds.specs.Values.{number_at, decimal_at, bound_at, word_at, after_keyword, decimal_after, word_after, word_by};
+ghost use Rattle.spk_cmds.specs.Values.{number_at, decimal_at, bound_at, word_at, after_keyword, decimal_after, word_after, word_by, words_of};
 
 use spk_num::decimal::Dec;
 use spk_num::shape::Bound;
 use spk_num::text::Text;
+use spk_num::texts::Texts;
 use std::alloc::{AllocError, Global};
 use std::marker::Model;
 
@@ -129,6 +130,17 @@ impl Values {
             Some(value) => word_of(value),
             None => "",
         }
+    }
+
+    /// The words of all values in their order.
+    pub fn words(&self, alloc: Global) -> Result<Texts, AllocError>
+        ensures { IfOk result (λ words. words ≡ words_of self.now) }
+    {
+        let mut words = Vec::new(alloc);
+        for value in self.as_slice() {
+            words.push(Text::copy(alloc, word_of(value))?)?;
+        }
+        Ok(Texts::from_vec(words))
     }
 
     /// The decimal number after a keyword, where that stands.
