@@ -1,3 +1,5 @@
+pub mod AddedRegions
+pub mod Areas
 pub mod CommandSteps
 pub mod DrawnValues
 pub mod Headline

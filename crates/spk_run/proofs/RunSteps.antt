@@ -10,8 +10,8 @@ use Rattle.spk_run.specs.declared.rank_state.RankState.{RankState}
 use Rattle.spk_run.specs.declared.run_settings.RunSettings.{RunSettings}
 use Rattle.spk_run.specs.declared.running.Running.{Running}
 use Rattle.spk_run.specs.declared.teller.Teller.{Teller}
-use Rattle.spk_run.specs.Ising.{whole_chain}
-use Rattle.spk_run.specs.Turns.{propensities, counts_sum, turn_of}
+use Rattle.spk_run.specs.Ising.{whole_lattice, KeepsPropensities}
+use Rattle.spk_run.specs.Turns.{counts_sum, turn_of}
 use Rattle.spk_run.specs.Plans.{elapsed, window, cycles, is_mark, marks_from}
 use Rattle.spk_run.specs.Statistics.{header_text, statistics_text}
 use Rattle.spk_run.specs.Output.{prints, prints_all}
@@ -25,14 +25,12 @@ use Rattle.spk_run.proofs.Ranks.{one_rank_step, mark_text_is, domain_after_is}
 
 -- after a turn
 pub has_turned : (settings : RunSettings) (domain : Domain) (done ticks : ℕ) (old new : Running) → settings.sectors ≡ 1 → ticks ≡ window settings done →
-    HasDone settings domain done old → KeepsBox domain new → new.state ≡ turn_of (whole_chain (length old.state.values)) ticks old.state →
-    length new.state.values ≡ length old.state.values → new.kept ≡ propensities (whole_chain (length old.state.values)) new.state.values →
-    HasDone settings domain (done + 1) new
-has_turned settings domain done ticks old new one window_is has keeps state sites kept = record {
+    HasDone settings domain done old → KeepsBox domain new → new.state ≡ turn_of (whole_lattice old.lattice) ticks old.state →
+    KeepsPropensities old.lattice new.state.values new.kept → HasDone settings domain (done + 1) new
+has_turned settings domain done ticks old new one window_is has keeps state kept = record {
   keeps = keeps;
-  state = rw (state, window_is, has.sites) (one_rank_step settings domain done old.state one has.keeps.some_stream has.state);
-  sites = sites ∙ has.sites;
-  afresh = rw has.sites at kept;
+  state = rw (state, window_is, has.keeps.lattice) (one_rank_step settings domain done old.state one has.keeps.some_stream has.state);
+  kept = rw has.keeps.lattice at kept;
 }
 
 -- the text of a mark by what the run holds
@@ -64,8 +62,7 @@ pub has_done_telling : (settings : RunSettings) (domain : Domain) (done : ℕ) (
 has_done_telling settings domain done running teller has = record {
   keeps = record { lattice = has.keeps.lattice; time = has.keeps.time; streams = has.keeps.streams; counts = has.keeps.counts; sweeps = has.keeps.sweeps; some_stream = has.keeps.some_stream; line = has.keeps.line };
   state = has.state;
-  sites = has.sites;
-  afresh = has.afresh;
+  kept = has.kept;
 }
 
 -- the texts that are left after a cycle with a mark, after one without, and after the last

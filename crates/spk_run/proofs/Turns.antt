@@ -7,9 +7,10 @@ use Rattle.std.proofs.lemmas.List.Sums.{sum_by-cons}
 use Rattle.std.proofs.lemmas.List.Concat.{flat_map_single}
 use Rattle.std.proofs.lemmas.List.FromFn.{length-map-range_with_len, get_or-map-range_with_len}
 use Rattle.std.specs.List.{range_with_len}
+use Rattle.spk_lattice.specs.Layout.{Layout, sites_of}
 use Rattle.spk_run.proofs.Weights.{length-propensities, propensity_at}
 use Rattle.spk_run.specs.declared.rank_state.RankState.{RankState}
-use Rattle.spk_run.specs.Ising.{chain, flip_of, flipped, whole_chain}
+use Rattle.spk_run.specs.Ising.{flip_of, flipped, places_beside, whole_lattice}
 use Rattle.spk_run.specs.Turns.{Sector, SiteEvent, propensities, target, all_events, propensity, named_from, named, applied, total, wait_before, stream_after, with_accepted, after_event, turn_from}
 
 -- no event is left to do
@@ -64,58 +65,59 @@ named_at (e ∷ es) target so_far (suc at) other less not_before passes =
     rw not_here (named_at es target (so_far + e.event.weight) at other (omega arith) (omega arith) (omega arith))
 
 -- the event of the site at a place
-event_at : ℕ → List ℕ → ℕ → SiteEvent
-event_at sites values place = record { place = place; event = flip_of (chain sites) values place }
+event_at : Layout → List ℕ → ℕ → SiteEvent
+event_at layout values place = record { place = place; event = flip_of (places_beside layout) values place }
 
 -- all events, one for each site
-events_are : (sites : ℕ) (values : List ℕ) → all_events (whole_chain sites) values ≡ map (λ place. event_at sites values place) (range_with_len 0 sites)
+events_are : (layout : Layout) (values : List ℕ) → all_events (whole_lattice layout) values ≡ map (λ place. event_at layout values place) (range_with_len 0 (sites_of layout))
 unfolding event_at
-events_are sites values = flat_map_single (λ place. event_at sites values place) (range_with_len 0 sites)
+events_are layout values = flat_map_single (λ place. event_at layout values place) (range_with_len 0 (sites_of layout))
 
-length-all_events : (sites : ℕ) (values : List ℕ) → length (all_events (whole_chain sites) values) ≡ sites
-length-all_events sites values = rw events_are (length-map-range_with_len (λ place. event_at sites values place) 0 sites)
+length-all_events : (layout : Layout) (values : List ℕ) → length (all_events (whole_lattice layout) values) ≡ sites_of layout
+length-all_events layout values = rw events_are (length-map-range_with_len (λ place. event_at layout values place) 0 (sites_of layout))
 
-get_or-all_events : (sites : ℕ) (values : List ℕ) (place : ℕ) (other : SiteEvent) → place < sites → get_or (all_events (whole_chain sites) values) place other ≡ event_at sites values place
-get_or-all_events sites values place other less =
-    rw events_are (get_or-map-range_with_len (λ at. event_at sites values at) 0 sites place place other less (omega arith))
+get_or-all_events : (layout : Layout) (values : List ℕ) (place : ℕ) (other : SiteEvent) → place < sites_of layout →
+    get_or (all_events (whole_lattice layout) values) place other ≡ event_at layout values place
+get_or-all_events layout values place other less =
+    rw events_are (get_or-map-range_with_len (λ at. event_at layout values at) 0 (sites_of layout) place place other less (omega arith))
 
 -- their weights are the propensities
-weight_at : (sites : ℕ) (values : List ℕ) (place : ℕ) → (event_at sites values place).event.weight ≡ propensity (whole_chain sites) values place
+weight_at : (layout : Layout) (values : List ℕ) (place : ℕ) → (event_at layout values place).event.weight ≡ propensity (whole_lattice layout) values place
 unfolding event_at
-weight_at sites values place = sym (zero-add (flip_of (chain sites) values place).weight)
+weight_at layout values place = sym (zero-add (flip_of (places_beside layout) values place).weight)
 
-weights_are : (sites : ℕ) (values : List ℕ) → map (λ (e : SiteEvent). e.event.weight) (all_events (whole_chain sites) values) ≡ propensities (whole_chain sites) values
-weights_are sites values =
-    let weights : List ℕ = map (λ (e : SiteEvent). e.event.weight) (all_events (whole_chain sites) values) in
-    let all : length weights ≡ sites = length-map (all_events (whole_chain sites) values) (λ (e : SiteEvent). e.event.weight) ∙ length-all_events sites values in
-    let each : (k : ℕ) → k < length weights → get_or weights k 0 ≡ get_or (propensities (whole_chain sites) values) k 0 = λ k less.
-    let there : k < sites = omega arith in
-    let listed : k < length (all_events (whole_chain sites) values) = omega (arith, length-all_events sites values) in
-    get_or-map (λ (e : SiteEvent). e.event.weight) (all_events (whole_chain sites) values) k (event_at sites values k) 0 listed
-    ∙ ap (λ (e : SiteEvent). e.event.weight) (get_or-all_events sites values k (event_at sites values k) there)
-    ∙ weight_at sites values k
-    ∙ sym (propensity_at sites values k there) in
-    ext_get_or 0 weights (propensities (whole_chain sites) values) (all ∙ sym (length-propensities sites values)) each
+weights_are : (layout : Layout) (values : List ℕ) → map (λ (e : SiteEvent). e.event.weight) (all_events (whole_lattice layout) values) ≡ propensities (whole_lattice layout) values
+weights_are layout values =
+    let weights : List ℕ = map (λ (e : SiteEvent). e.event.weight) (all_events (whole_lattice layout) values) in
+    let all : length weights ≡ sites_of layout = length-map (all_events (whole_lattice layout) values) (λ (e : SiteEvent). e.event.weight) ∙ length-all_events layout values in
+    let each : (k : ℕ) → k < length weights → get_or weights k 0 ≡ get_or (propensities (whole_lattice layout) values) k 0 = λ k less.
+    let there : k < sites_of layout = omega arith in
+    let listed : k < length (all_events (whole_lattice layout) values) = omega (arith, length-all_events layout values) in
+    get_or-map (λ (e : SiteEvent). e.event.weight) (all_events (whole_lattice layout) values) k (event_at layout values k) 0 listed
+    ∙ ap (λ (e : SiteEvent). e.event.weight) (get_or-all_events layout values k (event_at layout values k) there)
+    ∙ weight_at layout values k
+    ∙ sym (propensity_at layout values k there) in
+    ext_get_or 0 weights (propensities (whole_lattice layout) values) (all ∙ sym (length-propensities layout values)) each
 
 -- the event that a target names flips the site whose running sum passes it
-named_flips : (sites : ℕ) (values : List ℕ) (goal_target place : ℕ)
-    → place < sites
-    → sum (take place (propensities (whole_chain sites) values)) ≤ goal_target
-    → goal_target < sum (take (place + 1) (propensities (whole_chain sites) values))
-    → applied (whole_chain sites) values (named goal_target (all_events (whole_chain sites) values)) ≡ flipped values place
+named_flips : (layout : Layout) (values : List ℕ) (goal_target place : ℕ)
+    → place < sites_of layout
+    → sum (take place (propensities (whole_lattice layout) values)) ≤ goal_target
+    → goal_target < sum (take (place + 1) (propensities (whole_lattice layout) values))
+    → applied (whole_lattice layout) values (named goal_target (all_events (whole_lattice layout) values)) ≡ flipped values place
 unfolding event_at
-named_flips sites values goal_target place less not_before passes =
-    let e : SiteEvent = event_at sites values place in
-    let names : named goal_target (all_events (whole_chain sites) values) ≡ Some (get_or (all_events (whole_chain sites) values) place e) =
-    named_at (all_events (whole_chain sites) values) goal_target 0 place e (omega (arith, length-all_events sites values))
-    (rw (weights_are sites values) (omega arith)) (rw (weights_are sites values, ← add-one place) (omega arith)) in
-    rw (names, get_or-all_events sites values place e less) refl
+named_flips layout values goal_target place less not_before passes =
+    let e : SiteEvent = event_at layout values place in
+    let names : named goal_target (all_events (whole_lattice layout) values) ≡ Some (get_or (all_events (whole_lattice layout) values) place e) =
+    named_at (all_events (whole_lattice layout) values) goal_target 0 place e (omega (arith, length-all_events layout values))
+    (rw (weights_are layout values) (omega arith)) (rw (weights_are layout values, ← add-one place) (omega arith)) in
+    rw (names, get_or-all_events layout values place e less) refl
 
 -- the state after the event that a target names
-pub after_event_is : (sites : ℕ) (state : RankState) (place : ℕ)
-    → place < sites
-    → sum (take place (propensities (whole_chain sites) state.values)) ≤ target (whole_chain sites) state
-    → target (whole_chain sites) state < sum (take (place + 1) (propensities (whole_chain sites) state.values))
-    → after_event (whole_chain sites) state ≡ record { values = flipped state.values place; stream = stream_after state; counts = with_accepted state.counts }
-after_event_is sites state place less not_before passes =
-    rw (named_flips sites state.values (target (whole_chain sites) state) place less not_before passes) refl
+pub after_event_is : (layout : Layout) (state : RankState) (place : ℕ)
+    → place < sites_of layout
+    → sum (take place (propensities (whole_lattice layout) state.values)) ≤ target (whole_lattice layout) state
+    → target (whole_lattice layout) state < sum (take (place + 1) (propensities (whole_lattice layout) state.values))
+    → after_event (whole_lattice layout) state ≡ record { values = flipped state.values place; stream = stream_after state; counts = with_accepted state.counts }
+after_event_is layout state place less not_before passes =
+    rw (named_flips layout state.values (target (whole_lattice layout) state) place less not_before passes) refl

@@ -4,12 +4,14 @@ use Rattle.spk_world.specs.Causes.{Rose}
 use Rattle.spk_world.specs.States.{Faults}
 use Rattle.spk_lattice.specs.declared.lattice.LatticeFault.{LatticeFault}
 use Rattle.spk_lattice.specs.declared.lattice.LatticeFault.TheVariants as lattice
+use Rattle.spk_lattice.specs.declared.regions.fault.RegionFault.{RegionFault}
+use Rattle.spk_lattice.specs.declared.regions.fault.RegionFault.TheVariants as region
 use Rattle.spk_script.specs.declared.fault.LineFault.{LineFault}
 use Rattle.spk_script.specs.declared.fault.LineFault.TheVariants as fault
 use Rattle.spk_cmds.specs.declared.command.CommandFault.{CommandFault}
 use Rattle.spk_cmds.specs.declared.command.CommandFault.TheVariants as command
 use Rattle.spk_run.specs.declared.cause.Cause.{Cause}
-use Rattle.spk_run.specs.declared.cause.Cause.TheVariants.{ScriptTooLong, NotAscii, OpenQuote, TooManyLines, LineTooLong, TooManyCommands, UnknownVariable, WrongWords, BadName, BadFormula, Inexact, NumberTooLarge, LoopValue, NotStepped, OtherFile, NoSuchLabel, BadStyle, UnknownCommand, UnknownStyle, WrongCount, BadNumber, OutOfRange, NotBuilt, BadCommandName, NoSeed, NoApp, NoLattice, NoBox, NoSites, AlreadyMade, RegionTwice, NoSuchRegion, RegionEmpty, TooManyRegions, BoxNotBlock, BoxNotWhole, TooSmall, TooManySites, NoSolver, BadValueForApp, RunTooLong, FileMissing}
+use Rattle.spk_run.specs.declared.cause.Cause.TheVariants.{ScriptTooLong, NotAscii, OpenQuote, TooManyLines, LineTooLong, TooManyCommands, UnknownVariable, WrongWords, BadName, BadFormula, Inexact, NumberTooLarge, LoopValue, NotStepped, OtherFile, NoSuchLabel, BadStyle, UnknownCommand, UnknownStyle, WrongCount, BadNumber, OutOfRange, NotBuilt, BadCommandName, NoSeed, NoApp, NoLattice, NoBox, NoSites, AlreadyMade, WrongDimension, RegionTwice, NoSuchRegion, RegionEmpty, TooManyParts, TooManyRegions, BoxNotBlock, BoxNotWhole, TooSmall, TooManySites, NoSolver, BadValueForApp, RunTooLong, FileMissing}
 
 -- each cause has a number and a text
 abbrev pub cause_number : Cause → ℕ
@@ -43,9 +45,11 @@ cause_number NoLattice = 303
 cause_number NoBox = 304
 cause_number NoSites = 305
 cause_number AlreadyMade = 306
+cause_number WrongDimension = 307
 cause_number (RegionTwice name) = 308
 cause_number (NoSuchRegion name) = 309
 cause_number RegionEmpty = 310
+cause_number TooManyParts = 311
 cause_number TooManyRegions = 312
 cause_number BoxNotBlock = 313
 cause_number (BoxNotWhole dimension) = 314
@@ -93,9 +97,11 @@ cause_text NoLattice = codes "no lattice"
 cause_text NoBox = codes "no box"
 cause_text NoSites = codes "no sites"
 cause_text AlreadyMade = codes "already made"
+cause_text WrongDimension = codes "dimension and lattice disagree"
 cause_text (RegionTwice name) = codes "region " ++ (name ++ codes " is there")
 cause_text (NoSuchRegion name) = codes "no region " ++ name
 cause_text RegionEmpty = codes "region is empty"
+cause_text TooManyParts = codes "more than 16 parts"
 cause_text TooManyRegions = codes "more than 128 regions"
 cause_text BoxNotBlock = codes "box is not a block"
 cause_text (BoxNotWhole dimension) = codes "box is not whole in " ++ dimension_text dimension
@@ -138,6 +144,15 @@ words_cause command.Memory = None
 abbrev pub lattice_cause : LatticeFault → Cause
 lattice_cause (lattice.TooSmall dimension) = TooSmall dimension
 lattice_cause lattice.TooManySites = TooManySites
+
+-- the same of a fault of a region with this name; out of memory is none
+abbrev pub shape_cause : List ℕ → RegionFault → Option Cause
+shape_cause name region.Twice = Some (RegionTwice name)
+shape_cause name (region.Unknown part) = Some (NoSuchRegion part)
+shape_cause name region.Empty = Some RegionEmpty
+shape_cause name region.TooManyParts = Some TooManyParts
+shape_cause name region.TooManyRegions = Some TooManyRegions
+shape_cause name region.Memory = None
 
 -- a cause that lies in a file that a command loads
 abbrev pub IsOfFile : Cause → Type 0

@@ -10,6 +10,8 @@ use Rattle.spk_run.specs.declared.state.SessionState.{SessionState}
 use Rattle.spk_run.specs.States.{first_of, already, ticks_of}
 use Rattle.spk_run.specs.Commands.NotBuilt.{unbuilt_word}
 use Rattle.spk_run.specs.Commands.Seed.{with_seed}
+use Rattle.spk_run.specs.Commands.Dimension.{dimension_cause}
+use Rattle.spk_run.specs.Commands.Lattice.{style_cause}
 use Rattle.spk_run.specs.Commands.Region.{region_cause, with_region}
 use Rattle.spk_run.specs.Commands.CreateBox.{box_cause, box_of, with_box}
 use Rattle.spk_run.specs.Commands.CreateSites.{sites_cause, with_sites}
@@ -18,6 +20,8 @@ use Rattle.spk_run.specs.Commands.Run.{run_cause, performs_run}
 use Rattle.spk_run.specs.Commands.Print.{performs_print}
 pub mod CreateBox
 pub mod CreateSites
+pub mod Dimension
+pub mod Lattice
 pub mod NotBuilt
 pub mod Print
 pub mod Region
@@ -28,12 +32,13 @@ pub mod Set
 -- the cause in what was given and made before
 abbrev pub state_cause : SessionState → Command → Option Cause
 state_cause state (command.App style) = already state.app
-state_cause state (command.Lattice style scale) = already state.lattice
+state_cause state (command.Dimension dimensions) = dimension_cause state dimensions
+state_cause state (command.Lattice style scale) = style_cause state style
 state_cause state (command.Boundary faces) = already state.domain
 state_cause state (command.Region name shape) = region_cause state name shape
 state_cause state (command.CreateBox region) = box_cause state region
 state_cause state command.CreateSites = sites_cause state
-state_cause state (command.Set value fraction region) = set_cause state
+state_cause state (command.Set value fraction region) = set_cause state region
 state_cause state (command.Run length) = run_cause state (ticks_of length)
 state_cause state other = None
 
@@ -45,11 +50,12 @@ cause state asked = first_of (option_map (λ word. cause_of.NotBuilt word) (unbu
 unfoldable pub set_by : SessionState → Command → SessionState
 set_by state (command.Seed seed) = with_seed state seed
 set_by state (command.App style) = record state { app = Some style }
+set_by state (command.Dimension dimensions) = record state { dimension = Some dimensions }
 set_by state (command.Lattice style scale) = record state { lattice = Some (record { style = style; scale = scale }) }
 set_by state (command.Region name shape) = with_region state name shape
 set_by state (command.CreateBox region) = with_box state state.seed (box_of state region)
 set_by state command.CreateSites = with_sites state
-set_by state (command.Set value fraction region) = with_set state value
+set_by state (command.Set value fraction region) = with_set state value fraction region
 set_by state (command.Solve style) = record state { solver = Some style }
 set_by state (command.Stats delta) = record state { stats = ticks_of delta }
 set_by state (command.SetEcho style) = record state { echo = style }

@@ -1,12 +1,10 @@
--- Ising sites at temperature 0, and the chain on which they stand. The energy is SPPARKS's; the order of neighbours is our own.
-use Rattle.std.specs.Prelude.{ℕ, ◌+◌, ◌-◌, ◌%◌, ◌^◌, Bool, ◌||◌, not, ◌==◌, nat_le, if◌then◌else◌, List, [], ◌∷◌, count_by, slice_index, slice_set}
+-- Ising sites at temperature 0, and the lattice on which they stand. The energy is SPPARKS's.
+use Rattle.std.specs.Prelude.{◌≡◌, ℕ, ◌+◌, ◌-◌, ◌^◌, Bool, ◌||◌, not, ◌==◌, nat_le, if◌then◌else◌, List, [], ◌∷◌, map, length, count_by, slice_index, slice_set}
 use Rattle.std.specs.List.{range_with_len}
+use Rattle.spk_lattice.specs.Layout.{Layout, sites_of}
+use Rattle.spk_lattice.specs.Neighbours.{nb}
 use Rattle.spk_run.specs.Applications.{Event, Application}
-use Rattle.spk_run.specs.Turns.{Sector}
-
--- the neighbours of a site on a periodic chain of so many sites: the one before and the one after
-abbrev pub chain : ℕ → ℕ → List ℕ
-chain sites place = ((place + sites - 1) % sites) ∷ ((place + 1) % sites) ∷ []
+use Rattle.spk_run.specs.Turns.{Sector, propensities}
 
 -- how many neighbours have another value
 abbrev pub energy_of : (ℕ → List ℕ) → List ℕ → ℕ → ℕ
@@ -42,6 +40,15 @@ ising = record {
   largest = 2 ^ 30;
 }
 
--- all sites of a chain are one sector
-abbrev pub whole_chain : ℕ → Sector
-whole_chain sites = record { application = ising; neighbours = chain sites; places = range_with_len 0 sites }
+-- the neighbours of a site, in the order of the lattice: a place is an id less 1
+abbrev pub places_beside : Layout → ℕ → List ℕ
+places_beside layout place = map (λ id. id - 1) (nb layout (place + 1))
+
+-- all sites of a lattice are one sector
+abbrev pub whole_lattice : Layout → Sector
+whole_lattice layout = record { application = ising; neighbours = places_beside layout; places = range_with_len 0 (sites_of layout) }
+
+-- each site of a lattice has a value, and kept propensities are those that are taken afresh
+pub record KeepsPropensities (layout : Layout) (values kept : List ℕ) : Type 0 where
+  pub fits : length values ≡ sites_of layout
+  pub afresh : kept ≡ propensities (whole_lattice layout) values

@@ -1,4 +1,5 @@
 pub mod Applications
+pub mod Areas
 pub mod Causes
 pub mod Commands
 pub mod Drawing
@@ -10,7 +11,6 @@ pub mod Output
 pub mod Plain
 pub mod Plans
 pub mod Prepared
-pub mod Regions
 pub mod Running
 pub mod Runs
 pub mod Scripts

@@ -1,17 +1,16 @@
 -- What is made for a run before its first write.
-use Rattle.std.specs.Prelude.{◌≡◌, ℕ, ◌≤◌, length, vec_capacity, Option, Some, None}
+use Rattle.std.specs.Prelude.{◌≡◌, ℕ, ◌≤◌, vec_capacity, Option, Some, None}
 use Rattle.spk_run.specs.declared.domain.Domain.{Domain}
 use Rattle.spk_run.specs.declared.run_settings.RunSettings.{RunSettings}
 use Rattle.spk_run.specs.declared.running.RunRoom.{RunRoom}
 use Rattle.spk_run.specs.declared.state.SessionState.{SessionState}
 use Rattle.spk_run.specs.Commands.Run.{settings_of}
-use Rattle.spk_run.specs.Ising.{whole_chain}
-use Rattle.spk_run.specs.Turns.{propensities}
+use Rattle.spk_run.specs.Ising.{KeepsPropensities}
 
 pub record HasRoom (state : SessionState) (run : ℕ) (domain : Domain) (settings : RunSettings) (room : RunRoom) : Type 0 where
   pub plan : settings ≡ settings_of state run domain
   pub line : 128 ≤ vec_capacity room.line
-  pub afresh : room.kept ≡ propensities (whole_chain (length domain.values)) domain.values
+  pub kept : KeepsPropensities domain.lattice domain.values room.kept
   pub log : room.output.log ≡ state.log
 
 abbrev pub IsPreparedFor : SessionState → ℕ → Option Domain → Option (RunSettings × RunRoom) → Type 0

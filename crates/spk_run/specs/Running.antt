@@ -4,17 +4,16 @@ use Rattle.spk_world.specs.States.{WorldState}
 use Rattle.spk_run.specs.declared.domain.Domain.{Domain}
 use Rattle.spk_run.specs.declared.run_settings.RunSettings.{RunSettings}
 use Rattle.spk_run.specs.declared.running.Running.{Running}
-use Rattle.spk_run.specs.Ising.{whole_chain}
-use Rattle.spk_run.specs.Turns.{propensities}
+use Rattle.spk_run.specs.Ising.{KeepsPropensities}
 use Rattle.spk_run.specs.Plans.{marks_from}
 use Rattle.spk_run.specs.Globals.{global_state}
 use Rattle.spk_run.specs.Runs.{job, mark_text, run_texts}
 use Rattle.spk_run.specs.Output.{prints_all}
 use Rattle.spk_run.specs.Telling.{GoesOnTelling}
 
--- The kept propensities are those taken afresh, and there is room for a line.
+-- The kept propensities are right, and there is room for a line.
 pub record IsReady (running : Running) : Type 0 where
-  pub afresh : running.kept ≡ propensities (whole_chain (length running.state.values)) running.state.values
+  pub kept : KeepsPropensities running.lattice running.state.values running.kept
   pub line : 128 ≤ vec_capacity running.line
 
 -- what a run keeps of the box that it began with
@@ -31,8 +30,7 @@ pub record HasDone (settings : RunSettings) (domain : Domain) (done : ℕ) (runn
   pub keeps : KeepsBox domain running
   pub state : global_state (job settings domain) done
       ≡ record { values = running.state.values; streams = slice_set domain.streams 0 running.state.stream; counts = running.state.counts ∷ [] }
-  pub sites : length running.state.values ≡ length domain.values
-  pub afresh : running.kept ≡ propensities (whole_chain (length domain.values)) running.state.values
+  pub kept : KeepsPropensities domain.lattice running.state.values running.kept
 
 pub record RunsOn (start now : WorldState) (log : Option (List ℕ)) (settings : RunSettings) (domain : Domain) (done : ℕ) (running : Running) : Type 0 where
   pub has_done : HasDone settings domain done running

@@ -1,11 +1,11 @@
 -- A run of the sites of a box: the texts that it writes at its marks, and the box after it.
-use Rattle.std.specs.Prelude.{ℕ, ◌+◌, ◌*◌, ◌^◌, List, ◌∷◌, map, length, Option}
+use Rattle.std.specs.Prelude.{ℕ, ◌+◌, ◌*◌, ◌^◌, List, ◌∷◌, map, Option}
 use Rattle.spk_lattice.specs.Layout.{dimensions_of}
 use Rattle.spk_world.specs.Effects.{Effect, ◌>>◌, answers}
 use Rattle.spk_run.specs.declared.domain.Domain.{Domain}
 use Rattle.spk_run.specs.declared.run_settings.RunSettings.{RunSettings}
 use Rattle.spk_run.specs.declared.statistics.StatsLine.{StatsLine}
-use Rattle.spk_run.specs.Ising.{whole_chain}
+use Rattle.spk_run.specs.Ising.{whole_lattice}
 use Rattle.spk_run.specs.Turns.{counts_sum}
 use Rattle.spk_run.specs.Plans.{elapsed, marks, steps}
 use Rattle.spk_run.specs.Globals.{GlobalState, Job, global_state, all_counts}
@@ -19,7 +19,7 @@ sectors_of domain = 2 ^ dimensions_of domain.lattice.style
 -- a run on one rank
 abbrev pub job : RunSettings → Domain → Job
 job settings domain = record {
-  sector = λ rank sector. whole_chain (length domain.values);
+  sector = λ rank sector. whole_lattice domain.lattice;
   ranks = 1;
   streams_each = sectors_of domain;
   settings = settings;

@@ -1,7 +1,8 @@
 -- The session: what it is before the first line of a script, and words for what is made and what is missing.
-use Rattle.std.specs.Prelude.{ℕ, ◌*◌, Bool, false, not, nat_lt, if◌then◌else◌, List, [], ◌∷◌, length, unsigned_abs, Option, Some, None, is_some, Result, Ok, Err}
+use Rattle.std.specs.Prelude.{ℕ, ◌*◌, ◌==◌, Bool, false, not, if◌then◌else◌, List, [], ◌∷◌, length, unsigned_abs, Option, Some, None, is_some, Result, Ok, Err}
 use Rattle.std.specs.Option.{option_map_or}
 use Rattle.spk_num.specs.declared.decimal.Dec.{Dec}
+use Rattle.spk_lattice.specs.Layout.{sites_of}
 use Rattle.spk_cmds.specs.declared.options.Options.{Options}
 use Rattle.spk_run.specs.declared.cause.Cause.{Cause}
 use Rattle.spk_run.specs.declared.cause.Cause.TheVariants.{AlreadyMade}
@@ -14,6 +15,7 @@ new_state options = record {
   seed = None;
   sets = 0;
   app = None;
+  dimension = None;
   lattice = None;
   regions = [];
   domain = None;
@@ -27,9 +29,9 @@ new_state options = record {
 abbrev pub ticks_of : Dec → ℕ
 ticks_of dec = 1000 * unsigned_abs dec.millionths
 
--- the sites are made once they have values
+-- the sites are made once each has a value
 abbrev pub has_sites : Domain → Bool
-has_sites domain = nat_lt 0 (length domain.values)
+has_sites domain = length domain.values == sites_of domain.lattice
 
 abbrev pub are_made : Option Domain → Bool
 are_made domain = option_map_or has_sites domain false

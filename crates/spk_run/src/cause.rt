@@ -1,12 +1,13 @@
 //! The causes for which a script is refused, and the faults that they come from.
 
-ghost use Rattle.std.specs.Prelude.{◌≡◌, IfSome};
-ghost use Rattle.spk_run.specs.Causes.{IsOfState, line_cause, words_cause, lattice_cause};
+ghost use Rattle.std.specs.Prelude.{◌≡◌, IfOk, IfSome};
+ghost use Rattle.spk_run.specs.Causes.{IsOfState, line_cause, words_cause, lattice_cause, shape_cause};
 
 use spk_cmds::CommandFault;
-use spk_lattice::LatticeFault;
+use spk_lattice::{LatticeFault, RegionFault};
 use spk_num::text::Text;
 use spk_script::LineFault;
+use std::alloc::{AllocError, Global};
 
 /// Why a script is refused.
 #[derive(Debug, Drop)]
@@ -71,12 +72,16 @@ pub enum Cause {
     NoSites,
     /// It was given or made already.
     AlreadyMade,
+    /// `dimension` and the style of the lattice speak of different numbers of dimensions.
+    WrongDimension,
     /// A region has this name already.
     RegionTwice(Text),
     /// No region has this name.
     NoSuchRegion(Text),
-    /// A region's low bound is above its high one.
+    /// A region's low bound is above its high one, or it has no parts.
     RegionEmpty,
+    /// A region has more than 16 parts.
+    TooManyParts,
     /// It would be the 129th region.
     TooManyRegions,
     /// A box is made of a region that is no block.
@@ -135,6 +140,28 @@ impl Cause {
             CommandFault::NotBuilt(word) => Some(Cause::NotBuilt(word)),
             CommandFault::BadName(word) => Some(Cause::BadCommandName(word)),
             CommandFault::Memory => None,
+        }
+    }
+
+    /// The cause that a fault of a region is. Out of memory is none.
+    pub fn of_region(
+        alloc: Global,
+        name: &Text,
+        fault: RegionFault,
+    ) -> Result<Option<Cause>, AllocError>
+        ensures cause { IfOk result (λ found. found ≡ shape_cause name.now fault) }
+        ensures of_state { IfOk result (λ found. IfSome found IsOfState) }
+    {
+        match fault {
+            RegionFault::Twice => {
+                let name = Text::copy(alloc, name.as_str())?;
+                Ok(Some(Cause::RegionTwice(name)))
+            }
+            RegionFault::Unknown(part) => Ok(Some(Cause::NoSuchRegion(part))),
+            RegionFault::Empty => Ok(Some(Cause::RegionEmpty)),
+            RegionFault::TooManyParts => Ok(Some(Cause::TooManyParts)),
+            RegionFault::TooManyRegions => Ok(Some(Cause::TooManyRegions)),
+            RegionFault::Memory => Ok(None),
         }
     }
 

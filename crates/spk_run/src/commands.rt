@@ -18,6 +18,8 @@ use std::alloc::{AllocError, Global};
 
 mod create_box;
 mod create_sites;
+mod dimension;
+mod lattice;
 mod not_built;
 mod print;
 mod region;
@@ -44,12 +46,13 @@ impl SessionState {
     {
         match command {
             Command::App { .. } => Ok(already(self.app.is_some())),
-            Command::Lattice { .. } => Ok(already(self.lattice.is_some())),
+            Command::Dimension { d } => Ok(self.dimension_cause(*d)),
+            Command::Lattice { style, .. } => Ok(self.style_cause(*style)),
             Command::Boundary { .. } => Ok(already(self.domain.is_some())),
             Command::Region { name, shape } => self.region_cause(alloc, name, shape),
             Command::CreateBox { region } => self.box_cause(alloc, region),
             Command::CreateSites => Ok(self.sites_cause()),
-            Command::Set { .. } => Ok(self.set_cause()),
+            Command::Set { region, .. } => self.set_cause(alloc, region),
             Command::Run { length } => Ok(self.run_cause(ticks_of(*length))),
             _ => Ok(None),
         }
@@ -77,6 +80,7 @@ impl SessionState {
         match command {
             Command::Seed { seed } => self.set_seed(alloc, Seed::new(*seed))?,
             Command::App { style } => self.app = Some(*style),
+            Command::Dimension { d } => self.dimension = Some(*d),
             Command::Lattice { style, scale } => {
                 self.lattice = Some(LatticeStyle {
                     style: *style,
@@ -86,7 +90,11 @@ impl SessionState {
             Command::Region { name, shape } => self.add_region(alloc, name, shape)?,
             Command::CreateBox { region } => self.make_box(alloc, region)?,
             Command::CreateSites => self.make_sites(alloc)?,
-            Command::Set { value, .. } => self.set_values(*value),
+            Command::Set {
+                value,
+                fraction,
+                region,
+            } => self.set_values(*value, *fraction, region),
             Command::Solve { style } => self.solver = Some(*style),
             Command::Stats { delta } => self.stats = ticks_of(*delta),
             Command::SetEcho { echo } => self.echo = *echo,

@@ -2,6 +2,7 @@
 #![tactic(auto)]
 
 mod answer;
+mod area;
 mod cause;
 mod commands;
 mod counts;
@@ -12,7 +13,6 @@ mod output;
 mod plan;
 mod propensities;
 mod rank_state;
-mod regions;
 mod run;
 mod run_settings;
 mod running;

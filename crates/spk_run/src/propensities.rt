@@ -1,15 +1,29 @@
-//! The propensities of Ising sites on a chain: how readily each takes its other value, at temperature 0.
+//! The propensities of Ising sites on a lattice: how readily each takes its other value, at temperature 0.
 
-ghost use Rattle.std.specs.Prelude.{◌≡◌, ◌+◌, ◌-◌, ◌^◌, ◌<◌, ◌≤◌, length, sum, take, slice_index, slice_set, IfOk};
-ghost use Rattle.spk_run.specs.Ising.{chain, energy_of, flipped, whole_chain};
-ghost use Rattle.spk_run.specs.Turns.{propensity, propensities};
+ghost use Rattle.std.specs.Prelude.{◌≡◌, ◌==◌, ◌+◌, ◌-◌, ◌^◌, ◌<◌, ◌≤◌, All, not, count_by, length, map, sum, take, slice_index, slice_set, IfOk};
+ghost use Rattle.spk_lattice.specs.Layout.{sites_of};
+ghost use Rattle.spk_lattice.specs.Neighbours.{IsId, ids_of, nb};
+ghost use Rattle.spk_run.specs.Ising.{flipped, whole_lattice, KeepsPropensities};
+ghost use Rattle.spk_run.specs.Turns.{propensity};
 
 use crate::values::Values;
+use spk_lattice::{Lattice, Neighbours};
 use std::alloc::{AllocError, Global};
 use std::marker::Model;
 
 /// The weight of an event that happens, in units of 2^-30.
 const UNIT: u64 = 1 << 30;
+
+/// The neighbours of the site at `place`, whose id is one more.
+fn neighbours_of(lattice: &Lattice, place: usize) -> Neighbours
+    requires { place < sites_of lattice.now }
+    ensures few { result.count ≤ 26 }
+    ensures ids { ids_of result ≡ nb lattice.now (place + 1) }
+    ensures sites { All (IsId lattice.now) (nb lattice.now (place + 1)) }
+{
+    lattice.known();
+    lattice.neighbours(place as u32 + 1)
+}
 
 /// The value of a site's neighbour, where the site at `place` has this value. A neighbour may be the site itself.
 fn seen(values: &Values, neighbour: usize, place: usize, value: u32) -> u32
@@ -24,15 +38,17 @@ fn seen(values: &Values, neighbour: usize, place: usize, value: u32) -> u32
     }
 }
 
-/// The energy of the site at `place`, where it has this value.
-fn energy_with(values: &Values, place: usize, value: u32) -> u32
-    requires { place < length values.now }
-    ensures { result ≡ energy_of (chain (length values.now)) (slice_set values.now place value) place }
+/// The energy of the site at `place`, whose neighbours have these ids, where it has this value.
+fn energy_with(values: &Values, ids: &[u32], place: usize, value: u32) -> usize
+    requires sites { All (λ id. (1 ≤ id) × (id ≤ length values.now)) ids.now }
+    requires within { place < length values.now }
+    ensures { result ≡ count_by (λ other. not (slice_index (slice_set values.now place value) other == value)) (map (λ id. id - 1) ids.now) }
 {
-    let sites = values.len();
-    let before = seen(values, (place + sites - 1) % sites, place, value);
-    let after = seen(values, (place + 1) % sites, place, value);
-    u32::from(before != value) + u32::from(after != value)
+    let mut energy = 0;
+    for id in ids {
+        energy += usize::from(seen(values, *id as usize - 1, place, value) != value);
+    }
+    energy
 }
 
 /// The value that the site at `place` does not have: values are 1 and 2.
@@ -44,13 +60,16 @@ fn other_value(values: &Values, place: usize) -> u32
 }
 
 /// How readily the site at `place` takes its other value.
-fn propensity(values: &Values, place: usize) -> u64
-    requires { place < length values.now }
-    ensures weight { result ≡ propensity (whole_chain (length values.now)) values.now place }
+fn propensity(lattice: &Lattice, values: &Values, place: usize) -> u64
+    requires fits { length values.now ≡ sites_of lattice.now }
+    requires within { place < length values.now }
+    ensures weight { result ≡ propensity (whole_lattice lattice.now) values.now place }
     ensures at_most { result ≤ 2 ^ 30 }
 {
-    let before = energy_with(values, place, values.get(place));
-    let after = energy_with(values, place, other_value(values, place));
+    let neighbours = neighbours_of(lattice, place);
+    let ids = neighbours.as_slice();
+    let before = energy_with(values, ids, place, values.get(place));
+    let after = energy_with(values, ids, place, other_value(values, place));
     if after <= before { UNIT } else { 0 }
 }
 
@@ -72,14 +91,15 @@ impl Model for Propensities {
 }
 
 impl Propensities {
-    /// The propensities of these sites.
-    pub fn of(alloc: Global, values: &Values) -> Result<Propensities, AllocError>
-        ensures { IfOk result (λ p. p ≡ propensities (whole_chain (length values.now)) values.now) }
+    /// The propensities of the sites of a lattice with these values.
+    pub fn of(alloc: Global, lattice: &Lattice, values: &Values) -> Result<Propensities, AllocError>
+        requires { length values.now ≡ sites_of lattice.now }
+        ensures { IfOk result (KeepsPropensities lattice.now values.now) }
     {
         let mut weights = Vec::with_capacity(alloc, values.len())?;
         let mut total = 0;
         'sites: for place in 0..values.len() {
-            let weight = propensity(values, place);
+            let weight = propensity(lattice, values, place);
             weights.push(weight)?;
             total += weight;
         }
@@ -112,54 +132,75 @@ impl Propensities {
     }
 
     /// Takes the propensity of the site at `place` anew.
-    fn refresh(&mut self, values: &Values, place: usize)
-        requires same { length self.old ≡ length values.now }
+    fn refresh(&mut self, lattice: &Lattice, values: &Values, place: usize)
+        requires fits { length values.now ≡ sites_of lattice.now }
+        requires same { length self.old ≡ sites_of lattice.now }
         requires within { place < length values.now }
-        ensures { self.new ≡ slice_set self.old place (propensity (whole_chain (length values.now)) values.now place) }
+        ensures { self.new ≡ slice_set self.old place (propensity (whole_lattice lattice.now) values.now place) }
     {
-        let weight = propensity(values, place);
+        let weight = propensity(lattice, values, place);
         self.total = self.total - self.weights[place] + weight;
         self.weights[place] = weight;
     }
 
     /// Gives the site at `place` its other value. Its propensity and those of its neighbours are taken anew:
     /// no other depends on it.
-    #[tactic(auto, using(crate::proofs::Weights::one_flip))]
-    pub fn flip(&mut self, values: &mut Values, place: usize)
-        requires afresh { self.old ≡ propensities (whole_chain (length values.old)) values.old }
+    pub fn flip(&mut self, lattice: &Lattice, values: &mut Values, place: usize)
+        requires kept { KeepsPropensities lattice.now values.old self.old }
         requires within { place < length values.old }
         ensures values { values.new ≡ flipped values.old place }
-        ensures sites { length values.new ≡ length values.old }
-        ensures afresh { self.new ≡ propensities (whole_chain (length values.old)) values.new }
+        ensures kept { KeepsPropensities lattice.now values.new self.new }
     {
-        let sites = values.len();
+        lattice.known();
         let value = other_value(values, place);
         values.set(place, value);
-        self.refresh(values, place);
-        self.refresh(values, (place + sites - 1) % sites);
-        self.refresh(values, (place + 1) % sites);
+        self.refresh(lattice, values, place);
+        let neighbours = neighbours_of(lattice, place);
+        for id in neighbours.as_slice() {
+            self.refresh(lattice, values, *id as usize - 1);
+        }
     }
 }
 
 #[cfg(test)]
 mod tests {
     use super::*;
+    use spk_lattice::Style;
     use std::test::Fail;
 
     #[test]
     fn takes_anew_what_a_flip_changes(rt: HostRuntime) -> Result<(), Fail> {
-        // The values 1 1 2 1 1: only the site in the middle and its neighbours may flip.
-        let mut values = Values::filled(rt.alloc(), 5, 1)?;
+        // The values 1 1 2 1 1 on a chain: only the site in the middle and its neighbours may flip.
+        let lattice = Lattice::new(Style::Line2, 5, 1, 1).ok().ok_or("a chain")?;
+        let mut values = Values::filled(rt.alloc(), lattice.sites(), 1)?;
+        assert!(rt; values.len() > 2);
         values.set(2, 2);
-        let mut propensities = Propensities::of(rt.alloc(), &values)?;
+        let mut propensities = Propensities::of(rt.alloc(), &lattice, &values)?;
         assert_eq!(rt; propensities.total(), 3 * UNIT);
         for (target, place) in [(0, 1), (UNIT - 1, 1), (UNIT, 2), (3 * UNIT - 1, 3)] {
             assert!(rt; target < propensities.total());
             assert_eq!(rt; propensities.select(target), place, "at {target}");
         }
-        propensities.flip(&mut values, 2);
+        propensities.flip(&lattice, &mut values, 2);
         assert_eq!(rt; values.get(2), 1);
         assert_eq!(rt; propensities.total(), 0);
+        Ok(())
+    }
+
+    #[test]
+    fn counts_neighbours_on_a_square(rt: HostRuntime) -> Result<(), Fail> {
+        // The rows 1 1 1, 1 2 2 and 1 1 1: the two sites with 2 may flip, and the one between them, round the rim.
+        let lattice = Lattice::new(Style::Sq4, 3, 3, 1).ok().ok_or("a square")?;
+        let mut values = Values::filled(rt.alloc(), lattice.sites(), 1)?;
+        assert!(rt; values.len() > 5);
+        values.set(4, 2);
+        values.set(5, 2);
+        let mut propensities = Propensities::of(rt.alloc(), &lattice, &values)?;
+        assert_eq!(rt; propensities.total(), 3 * UNIT);
+        propensities.flip(&lattice, &mut values, 4);
+        assert_eq!(rt; propensities.total(), UNIT);
+        assert!(rt; propensities.total() > 0);
+        assert_eq!(rt; propensities.select(0), 5);
         Ok(())
     }
 }

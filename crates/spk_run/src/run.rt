@@ -1,9 +1,8 @@
 //! A run of the sites of a box, whole.
 
-ghost use Rattle.std.specs.Prelude.{◌≡◌, ◌+◌, ◌^◌, ◌<◌, ◌≤◌, length, vec_capacity};
+ghost use Rattle.std.specs.Prelude.{◌≡◌, ◌+◌, ◌^◌, ◌<◌, ◌≤◌, vec_capacity};
 ghost use Rattle.spk_world.specs.Effects.{Wrote};
-ghost use Rattle.spk_run.specs.Ising.{whole_chain};
-ghost use Rattle.spk_run.specs.Turns.{propensities};
+ghost use Rattle.spk_run.specs.Ising.{KeepsPropensities};
 ghost use Rattle.spk_run.specs.Output.{prints_all};
 ghost use Rattle.spk_run.specs.Runs.{run_texts, domain_after};
 ghost use Rattle.spk_run.specs.Endings.{target_stop};
@@ -21,7 +20,7 @@ const HEADER: &[u8] = b"Time Naccept Nreject Nsweeps\n";
 pub fn run<W: World>(domain: Domain, plan: &Plan, room: RunRoom, world: &mut W) -> Finished
     requires one_sector { plan.now.sectors ≡ 1 }
     requires line { 128 ≤ vec_capacity room.line }
-    requires afresh { room.kept ≡ propensities (whole_chain (length domain.values)) domain.values }
+    requires kept { KeepsPropensities domain.lattice domain.values room.kept }
     requires fits { domain.time + plan.now.length < 2 ^ 64 }
     ensures domain { result.domain ≡ domain_after plan.now domain }
     ensures wrote { Wrote target_stop (W.state world.old) (W.state world.new) (prints_all room.output.log (run_texts plan.now domain)) result.written }

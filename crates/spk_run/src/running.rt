@@ -1,12 +1,12 @@
 //! A run that goes on, cycle by cycle.
 
 ghost use Rattle.std.specs.Prelude.{◌≡◌, ◌+◌, ◌-◌, ◌*◌, ◌^◌, ◌<◌, ◌≤◌, ℕ, List, Option, length, vec_capacity, Ok, IfOk};
+ghost use Rattle.spk_lattice.specs.Layout.{sites_of};
 ghost use Rattle.spk_world.specs.Effects.{Effect};
 ghost use Rattle.spk_world.specs.States.{WorldState};
 ghost use Rattle.spk_run.specs.declared.domain.Domain.{Domain as Box};
 ghost use Rattle.spk_run.specs.declared.run_settings.RunSettings.{RunSettings as Settings};
-ghost use Rattle.spk_run.specs.Ising.{whole_chain};
-ghost use Rattle.spk_run.specs.Turns.{propensities};
+ghost use Rattle.spk_run.specs.Ising.{KeepsPropensities};
 ghost use Rattle.spk_run.specs.Plans.{cycles, elapsed, window};
 ghost use Rattle.spk_run.specs.Output.{prints_then};
 ghost use Rattle.spk_run.specs.Runs.{mark_text, domain_after};
@@ -23,7 +23,6 @@ use crate::rank_state::RankState;
 use crate::statistics::{LINE_ROOM, StatsLine};
 use crate::streams::Streams;
 use crate::teller::Teller;
-use crate::values::Values;
 use spk_lattice::Lattice;
 use spk_world::World;
 use std::alloc::{AllocError, Global};
@@ -61,16 +60,17 @@ pub struct Finished {
 }
 
 impl RunRoom {
-    /// The room for a run of sites with these values.
-    pub fn new(alloc: Global, values: &Values, output: Output) -> Result<RunRoom, AllocError>
+    /// The room for a run of the sites of a box.
+    pub fn new(alloc: Global, domain: &Domain, output: Output) -> Result<RunRoom, AllocError>
+        requires { length domain.now.values ≡ sites_of domain.now.lattice }
         ensures line { IfOk result (λ room. 128 ≤ vec_capacity room.line) }
-        ensures afresh { IfOk result (λ room. room.kept ≡ propensities (whole_chain (length values.now)) values.now) }
+        ensures kept { IfOk result (λ room. KeepsPropensities domain.now.lattice domain.now.values room.kept) }
         ensures output { IfOk result (λ room. room.output ≡ output) }
     {
         Ok(RunRoom {
             output,
             line: Vec::with_capacity(alloc, LINE_ROOM)?,
-            kept: Propensities::of(alloc, values)?,
+            kept: Propensities::of(alloc, &domain.lattice, &domain.values)?,
         })
     }
 }
@@ -79,7 +79,7 @@ impl Running {
     /// A run of a box before its first text.
     pub fn new(domain: Domain, room: RunRoom) -> Running
         requires line { 128 ≤ vec_capacity room.line }
-        requires afresh { room.kept ≡ propensities (whole_chain (length domain.values)) domain.values }
+        requires kept { KeepsPropensities domain.lattice domain.values room.kept }
         ensures done { (settings : Settings) → HasDone settings domain 0 result }
         ensures output { result.teller.output ≡ room.output }
         ensures written { result.teller.written ≡ Ok tt }
@@ -113,7 +113,7 @@ impl Running {
             HasDone settings domain done self.old → HasDone settings domain (done + 1) self.new }
         ensures teller { self.new.teller ≡ self.old.teller }
     {
-        self.state.turn(&mut self.kept, ticks);
+        self.state.turn(&self.lattice, &mut self.kept, ticks);
     }
 
     /// Writes the line of statistics after so many ticks.

@@ -5,9 +5,9 @@ ghost use Rattle.spk_cmds.specs.WellFormed.{IsUpTo};
 ghost use Rattle.spk_run.specs.States.{new_state, ticks_of, are_made, has_sites};
 
 use crate::domain::Domain;
-use crate::regions::Regions;
 use crate::seed::Seed;
 use spk_cmds::{AppStyle, Echo, Options, SolveStyle};
+use spk_lattice::Regions;
 use spk_num::decimal::Dec;
 use spk_num::style::Style;
 use spk_num::text::Text;
@@ -27,6 +27,8 @@ pub struct SessionState {
     /// How many `set` commands were obeyed since the last seed, modulo 2^32.
     pub sets: u32,
     pub app: Option<AppStyle>,
+    /// How many dimensions the lattice is to use, where that was said.
+    pub dimension: Option<u32>,
     pub lattice: Option<LatticeStyle>,
     pub regions: Regions,
     /// The box, once it is made.
@@ -56,7 +58,7 @@ impl Domain {
     pub fn has_sites(&self) -> bool
         ensures { result ≡ has_sites self.now }
     {
-        self.values.len() > 0
+        self.values.len() == self.lattice.sites() as usize
     }
 }
 
@@ -73,6 +75,7 @@ impl SessionState {
             seed: None,
             sets: 0,
             app: None,
+            dimension: None,
             lattice: None,
             regions: Regions::new(alloc),
             domain: None,

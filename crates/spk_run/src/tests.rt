@@ -187,11 +187,9 @@ fn unbuilt_word(refused: Result<(), Trouble>) -> Option<Text> {
 #[test]
 fn refuses_what_is_not_built(rt: HostRuntime) -> Result<(), TestFailed> {
     let mut bench = Bench::new(rt.alloc())?;
-    let refused = bench
-        .session
-        .obey(&Command::Dimension { d: 2 }, &mut bench.world);
+    let refused = bench.session.obey(&Command::DiagEnergy, &mut bench.world);
     let word = unbuilt_word(refused).ok_or("a word")?;
-    assert!(rt; word.as_str() == "dimension");
+    assert!(rt; word.as_str() == "diag_style");
     bench.expect(&rt, "");
     Ok(())
 }

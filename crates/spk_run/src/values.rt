@@ -1,11 +1,8 @@
 //! The values of the sites.
 
-ghost use Rattle.std.specs.Prelude.{◌≡◌, ◌+◌, ◌-◌, ◌<◌, ◌≤◌, not, [], length, position, replicate, slice_index, slice_set, IfOk};
-ghost use Rattle.spk_num.specs.Draws.{after_draws};
+ghost use Rattle.std.specs.Prelude.{◌≡◌, ◌<◌, ◌≤◌, not, [], length, position, replicate, slice_index, slice_set, IfOk};
 ghost use Rattle.spk_run.specs.Ising.{is_spin};
-ghost use Rattle.spk_run.specs.Drawing.{drawn_values};
 
-use spk_num::stream::Stream;
 use std::alloc::{AllocError, Global};
 use std::marker::Model;
 
@@ -81,28 +78,6 @@ impl Values {
     {
         self.items.iter().position(|value| !is_spin(*value))
     }
-
-    /// Gives each site this value.
-    pub fn set_all(&mut self, value: u32)
-        ensures { self.new ≡ replicate (length self.old) value }
-    {
-        for item in self.items.iter_mut() {
-            *item = value;
-        }
-    }
-
-    /// Draws the value of each site in turn, from `low` to `high`.
-    #[tactic(auto, using(crate::proofs::DrawnValues::drawing))]
-    pub fn draw(&mut self, low: u32, high: u32, stream: &mut Stream)
-        requires { low ≤ high }
-        ensures values { self.new ≡ drawn_values (length self.old) low high stream.old }
-        ensures stream { stream.new ≡ after_draws (length self.old) stream.old }
-    {
-        let choices = u64::from(high - low) + 1;
-        for item in self.items.iter_mut() {
-            *item = low + stream.below(choices) as u32;
-        }
-    }
 }
 
 #[cfg(test)]
@@ -111,20 +86,13 @@ mod tests {
     use std::test::Fail;
 
     #[test]
-    fn fills_and_draws_values(rt: HostRuntime) -> Result<(), Fail> {
+    fn keeps_values(rt: HostRuntime) -> Result<(), Fail> {
         assert_eq!(rt; Values::new(rt.alloc()).len(), 0);
-        let mut values = Values::filled(rt.alloc(), 10, 7)?;
-        let mut stream = Stream::of_state(1434163631).ok_or("a draw")?;
-        values.draw(1, 2, &mut stream);
-        assert_eq!(rt; values.len(), 10);
-        for (place, want) in [1, 2, 1, 2, 2, 2, 2, 1, 2, 2].iter().enumerate() {
-            assert_eq!(rt; values.get(place), *want, "at {place}");
-        }
-        assert_eq!(rt; stream.state(), 1100376000);
-        values.set_all(1);
-        values.set(9, 2);
-        assert_eq!(rt; values.get(8), 1);
-        assert_eq!(rt; values.get(9), 2);
+        let mut values = Values::filled(rt.alloc(), 3, 7)?;
+        values.set(1, 2);
+        assert_eq!(rt; values.get(1), 2);
+        assert_eq!(rt; values.get(2), 7);
+        assert_eq!(rt; values.len(), 3);
         Ok(())
     }
 }

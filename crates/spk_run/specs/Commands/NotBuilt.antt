@@ -1,35 +1,17 @@
 -- Commands that aren't built yet, whatever their words are. A session refuses each by its first word.
 use Rattle.std.specs.Prelude.{◌≡◌, ℕ, Bool, true, ◌||◌, false, not, int_lt, pos, if◌then◌else◌, List, codes, Option, Some, None, is_some}
 use Rattle.std.specs.List.{list_any}
-use Rattle.spk_num.specs.declared.shape.Shape.{Shape}
-use Rattle.spk_num.specs.declared.shape.Shape.TheVariants.{Block}
-use Rattle.spk_num.specs.declared.style.Style.{Style}
-use Rattle.spk_num.specs.declared.style.Style.TheVariants.{Line2}
 use Rattle.spk_cmds.specs.declared.command.AppStyle.{AppStyle}
 use Rattle.spk_cmds.specs.declared.command.AppStyle.TheVariants.{Ising}
-use Rattle.spk_cmds.specs.declared.command.SetValue.{SetValue}
-use Rattle.spk_cmds.specs.declared.command.SetValue.TheVariants.{Unique}
 use Rattle.spk_cmds.specs.declared.command.SolveStyle.{SolveStyle}
 use Rattle.spk_cmds.specs.declared.command.SolveStyle.TheVariants.{Linear}
 use Rattle.spk_cmds.specs.declared.command.Command.{Command}
-use Rattle.spk_cmds.specs.declared.command.Command.TheVariants.{App, Dimension, Lattice, Boundary, Processors, Region, Set, ReadSites, WriteRestart, ReadRestart, Sector, Solve, Sweep, Temperature, DiagEnergy, Dump, Undump}
+use Rattle.spk_cmds.specs.declared.command.Command.TheVariants.{App, Boundary, Processors, ReadSites, WriteRestart, ReadRestart, Sector, Solve, Sweep, Temperature, DiagEnergy, Dump, Undump}
 
 -- what is built of each command that has several forms
 abbrev pub is_built_app : AppStyle → Bool
 is_built_app Ising = true
 is_built_app style = false
-
-abbrev pub is_built_lattice : Style → Bool
-is_built_lattice Line2 = true
-is_built_lattice style = false
-
-abbrev pub is_built_shape : Shape → Bool
-is_built_shape (Block lo hi) = true
-is_built_shape shape = false
-
-abbrev pub is_built_value : SetValue → Bool
-is_built_value Unique = false
-is_built_value value = true
 
 abbrev pub is_built_solver : SolveStyle → Bool
 is_built_solver Linear = true
@@ -41,12 +23,8 @@ word_if unbuilt word = if unbuilt then Some word else None
 -- the first word of a command that isn't built
 unfoldable pub unbuilt_word : Command → Option (List ℕ)
 unbuilt_word (App style) = word_if (not (is_built_app style)) (codes "app_style")
-unbuilt_word (Dimension d) = Some (codes "dimension")
-unbuilt_word (Lattice style scale) = word_if (not (is_built_lattice style)) (codes "lattice")
 unbuilt_word (Boundary faces) = word_if (list_any (λ face. face) faces) (codes "boundary")
 unbuilt_word (Processors ranks) = Some (codes "processors")
-unbuilt_word (Region name shape) = word_if (not (is_built_shape shape)) (codes "region")
-unbuilt_word (Set value fraction region) = word_if (not (is_built_value value) || is_some fraction || is_some region) (codes "set")
 unbuilt_word (ReadSites file) = Some (codes "read_sites")
 unbuilt_word (WriteRestart file) = Some (codes "write_restart")
 unbuilt_word (ReadRestart file) = Some (codes "read_restart")

@@ -2,11 +2,9 @@
 
 ghost use Rattle.std.specs.Prelude.{◌≡◌, not, IfOk};
 ghost use Rattle.std.specs.List.{list_any};
-ghost use Rattle.spk_run.specs.Commands.NotBuilt.{is_built_app, is_built_lattice, is_built_shape, is_built_solver, is_built_value, word_if, unbuilt_word};
+ghost use Rattle.spk_run.specs.Commands.NotBuilt.{is_built_app, is_built_solver, word_if, unbuilt_word};
 
-use spk_cmds::{AppStyle, Command, SetValue, SolveStyle};
-use spk_num::shape::Shape;
-use spk_num::style::Style;
+use spk_cmds::{AppStyle, Command, SolveStyle};
 use spk_num::text::Text;
 use std::alloc::{AllocError, Global};
 
@@ -14,24 +12,6 @@ fn is_built_app(style: AppStyle) -> bool
     ensures { result ≡ is_built_app style }
 {
     matches!(style, AppStyle::Ising)
-}
-
-fn is_built_lattice(style: Style) -> bool
-    ensures { result ≡ is_built_lattice style }
-{
-    matches!(style, Style::Line2)
-}
-
-fn is_built_shape(shape: &Shape) -> bool
-    ensures { result ≡ is_built_shape shape.now }
-{
-    matches!(shape, Shape::Block { .. })
-}
-
-fn is_built_value(value: SetValue) -> bool
-    ensures { result ≡ is_built_value value }
-{
-    !matches!(value, SetValue::Unique)
 }
 
 fn is_built_solver(style: SolveStyle) -> bool
@@ -64,19 +44,8 @@ pub fn unbuilt_word(alloc: Global, command: &Command) -> Result<Option<Text>, Al
 {
     match command {
         Command::App { style } => word_if(alloc, !is_built_app(*style), "app_style"),
-        Command::Dimension { .. } => word_if(alloc, true, "dimension"),
-        Command::Lattice { style, .. } => word_if(alloc, !is_built_lattice(*style), "lattice"),
         Command::Boundary { faces } => word_if(alloc, has_open_face(faces), "boundary"),
         Command::Processors { .. } => word_if(alloc, true, "processors"),
-        Command::Region { shape, .. } => word_if(alloc, !is_built_shape(shape), "region"),
-        Command::Set {
-            value,
-            fraction,
-            region,
-        } => {
-            let unbuilt = !is_built_value(*value) || fraction.is_some() || region.is_some();
-            word_if(alloc, unbuilt, "set")
-        }
         Command::ReadSites { .. } => word_if(alloc, true, "read_sites"),
         Command::WriteRestart { .. } => word_if(alloc, true, "write_restart"),
         Command::ReadRestart { .. } => word_if(alloc, true, "read_restart"),
@@ -88,8 +57,12 @@ pub fn unbuilt_word(alloc: Global, command: &Command) -> Result<Option<Text>, Al
         Command::Dump { .. } => word_if(alloc, true, "dump"),
         Command::Undump { .. } => word_if(alloc, true, "undump"),
         Command::Seed { .. }
+        | Command::Dimension { .. }
+        | Command::Lattice { .. }
+        | Command::Region { .. }
         | Command::CreateBox { .. }
         | Command::CreateSites
+        | Command::Set { .. }
         | Command::Stats { .. }
         | Command::Run { .. }
         | Command::Print { .. }

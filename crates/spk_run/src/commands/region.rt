@@ -1,18 +1,26 @@
-//! `region`: a block with a name.
+//! `region`: a shape with a name.
 
 ghost use Rattle.std.specs.Prelude.{◌≡◌, IfOk, IfSome};
+ghost use Rattle.spk_cmds.specs.WellFormed.{IsShape};
 ghost use Rattle.spk_run.specs.Causes.{IsOfState};
-ghost use Rattle.spk_run.specs.Commands.Region.{region_cause, with_region};
+ghost use Rattle.spk_run.specs.Commands.Region.{IsNoMemory, region_cause, with_region};
 
 use crate::cause::Cause;
-use crate::regions::Block;
 use crate::state::SessionState;
+use spk_lattice::RegionFault;
 use spk_num::shape::Shape;
 use spk_num::text::Text;
 use std::alloc::{AllocError, Global};
 
-/// The most regions.
-const MOST_REGIONS: usize = 128;
+/// Whether a region was not added since there was no memory left.
+fn out_of_memory(added: &Result<(), RegionFault>) -> Result<(), AllocError>
+    ensures { IfOk result (λ _. IsNoMemory added.now) }
+{
+    match added {
+        Err(RegionFault::Memory) => Err(AllocError),
+        _ => Ok(()),
+    }
+}
 
 impl SessionState {
     pub fn region_cause(
@@ -24,21 +32,11 @@ impl SessionState {
         ensures cause { IfOk result (λ found. found ≡ region_cause self.now name.now shape.now) }
         ensures of_state { IfOk result (λ found. IfSome found IsOfState) }
     {
-        let Shape::Block { lo, hi } = shape else {
-            return Ok(None);
-        };
-        if self.regions.block(name).is_some() {
-            let name = Text::copy(alloc, name.as_str())?;
-            return Ok(Some(Cause::RegionTwice(name)));
+        match self.regions.judge(alloc, name, shape) {
+            Ok(()) => Ok(None),
+            Err(RegionFault::Memory) => Err(AllocError),
+            Err(fault) => Cause::of_region(alloc, name, fault),
         }
-        let block = Block { lo: *lo, hi: *hi };
-        if block.is_empty() {
-            return Ok(Some(Cause::RegionEmpty));
-        }
-        if self.regions.len() >= MOST_REGIONS {
-            return Ok(Some(Cause::TooManyRegions));
-        }
-        Ok(None)
     }
 
     pub fn add_region(
@@ -47,12 +45,9 @@ impl SessionState {
         name: &Text,
         shape: &Shape,
     ) -> Result<(), AllocError>
+        requires { IsShape shape.now }
         ensures { IfOk result (λ _. self.new ≡ with_region self.old name.now shape.now) }
     {
-        if let Shape::Block { lo, hi } = shape {
-            let block = Block { lo: *lo, hi: *hi };
-            self.regions.push(alloc, name, block)?;
-        }
-        Ok(())
+        out_of_memory(&self.regions.add(alloc, name, shape))
     }
 }

@@ -1,13 +1,12 @@
 //! `run`: it is refused for the first cause that holds, and else runs the sites of the box.
 
-ghost use Rattle.std.specs.Prelude.{◌≡◌, ◌≤◌, ◌+◌, ◌^◌, ◌<◌, length, vec_capacity, None, IfOk, IfSome};
+ghost use Rattle.std.specs.Prelude.{◌≡◌, ◌≤◌, ◌+◌, ◌^◌, ◌<◌, vec_capacity, None, IfOk, IfSome};
 ghost use Rattle.spk_world.specs.Effects.{Wrote};
 ghost use Rattle.spk_run.specs.Causes.{IsOfState};
 ghost use Rattle.spk_run.specs.Commands.Run.{settings_of, bad_value, domain_cause, run_cause, runs_domain_by, performs_run};
 ghost use Rattle.spk_run.specs.Prepared.{IsPrepared};
 ghost use Rattle.spk_run.specs.Faults.{fault_stop, done_to, LeavesDone, WritesAfterMemory};
-ghost use Rattle.spk_run.specs.Ising.{whole_chain};
-ghost use Rattle.spk_run.specs.Turns.{propensities};
+ghost use Rattle.spk_run.specs.Ising.{KeepsPropensities};
 
 use crate::cause::Cause;
 use crate::domain::Domain;
@@ -91,7 +90,8 @@ impl SessionState {
 
     /// The plan of a run of the box for so many ticks, and the room for it, where there is a box.
     fn prepared(&self, alloc: Global, length: u64) -> Result<Option<(Plan, RunRoom)>, AllocError>
-        requires { length ≤ 4000000000000000000 }
+        requires short { length ≤ 4000000000000000000 }
+        requires free { run_cause self.now length ≡ None }
         ensures { IfOk result (IsPrepared self.now length) }
     {
         let Some(domain) = &self.domain else {
@@ -99,7 +99,7 @@ impl SessionState {
         };
         let plan = self.plan(length, domain);
         let output = Output::new(alloc, &self.log)?;
-        let room = RunRoom::new(alloc, &domain.values, output)?;
+        let room = RunRoom::new(alloc, domain, output)?;
         Ok(Some((plan, room)))
     }
 
@@ -107,7 +107,7 @@ impl SessionState {
     fn run_with<W: World>(&mut self, plan: &Plan, room: RunRoom, world: &mut W) -> Result<(), Fault>
         requires one_sector { plan.now.sectors ≡ 1 }
         requires line { 128 ≤ vec_capacity room.line }
-        requires afresh { IfSome self.old.domain (λ domain. room.kept ≡ propensities (whole_chain (length domain.values)) domain.values) }
+        requires kept { IfSome self.old.domain (λ domain. KeepsPropensities domain.lattice domain.values room.kept) }
         requires fits { IfSome self.old.domain (λ domain. domain.time + plan.now.length < 2 ^ 64) }
         requires log { room.output.log ≡ self.old.log }
         ensures wrote { Wrote fault_stop (W.state world.old) (W.state world.new) (runs_domain_by self.old plan.now self.old.domain) (done_to self.new result) }

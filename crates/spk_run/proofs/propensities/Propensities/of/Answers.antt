@@ -16,4 +16,4 @@ invariant_of-result c =
     (c.sites.invariant.sum_is, c.sites.invariant.small, omega (arith, all))
 
 pub returns : goal.returns
-returns c = first_all _ _ _ _ _ c.sites.invariant (omega arith)
+returns c = first_all _ _ _ _ _ c.sites.invariant c.requires (omega arith)

@@ -6,9 +6,8 @@ pub returns-clause-done : goal.returns-clause-done
 returns-clause-done c = λ settings. record {
   keeps = record { lattice = refl; time = refl; streams = refl; counts = refl; sweeps = refl; some_stream = c.first-stream.ensures.some; line = c.requires.line };
   state = rw (c.first-stream.ensures.stream, c.none.ensures) (one_rank_starts settings c.args.domain);
-  sites = refl;
-  afresh = c.requires.afresh;
+  kept = c.requires.kept;
 }
 
 pub returns-clause-ready : goal.returns-clause-ready
-returns-clause-ready c = record { afresh = c.requires.afresh; line = c.requires.line }
+returns-clause-ready c = record { kept = c.requires.kept; line = c.requires.line }

@@ -15,9 +15,8 @@ pub returns-clause-done : goal.returns-clause-done
 returns-clause-done g c = λ settings domain done has. record {
   keeps = record { lattice = has.keeps.lattice; time = has.keeps.time; streams = has.keeps.streams; counts = has.keeps.counts; sweeps = has.keeps.sweeps; some_stream = has.keeps.some_stream; line = c.write.ensures.room };
   state = has.state;
-  sites = has.sites;
-  afresh = has.afresh;
+  kept = has.kept;
 }
 
 pub returns-clause-ready : goal.returns-clause-ready
-returns-clause-ready g c = record { afresh = c.requires.ready.afresh; line = c.write.ensures.room }
+returns-clause-ready g c = record { kept = c.requires.ready.kept; line = c.write.ensures.room }

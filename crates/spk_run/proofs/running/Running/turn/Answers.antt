@@ -5,7 +5,7 @@ pub returns-clause-done : goal.returns-clause-done
 returns-clause-done c = λ settings domain done one window_is has.
     has_turned settings domain done c.args.ticks c.args.self.now _ one window_is has
     (record { lattice = has.keeps.lattice; time = has.keeps.time; streams = has.keeps.streams; counts = has.keeps.counts; sweeps = has.keeps.sweeps; some_stream = has.keeps.some_stream; line = has.keeps.line })
-    c.turn.ensures.state c.turn.ensures.sites c.turn.ensures.afresh
+    c.turn.ensures.state c.turn.ensures.kept
 
 pub returns-clause-ready : goal.returns-clause-ready
-returns-clause-ready c = record { afresh = rw c.turn.ensures.sites c.turn.ensures.afresh; line = c.requires.line }
+returns-clause-ready c = record { kept = c.turn.ensures.kept; line = c.requires.line }
