@@ -3,6 +3,8 @@ pub mod Lengths
 pub mod LogarithmSteps
 pub mod ResultLaws
 pub mod Values
+pub mod WeightLaws
+pub mod WeightSteps
 pub mod Wholes
 pub mod Words
 pub mod Zeros

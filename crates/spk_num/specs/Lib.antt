@@ -3,4 +3,5 @@ pub mod Draws
 pub mod Logarithm
 pub mod Names
 pub mod Results
+pub mod Weights
 pub mod Whole
