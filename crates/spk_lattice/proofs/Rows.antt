@@ -1,5 +1,5 @@
 -- The row of a basis point, step by step.
-use Rattle.std.proofs.Common.{◌≡◌, ℕ, suc, ◌+◌, ◌-◌, ◌*◌, ◌<◌, ◌≤◌, ◌++◌, List, [], ◌∷◌, map, length, refl, sym, ap, ◌∙◌, subst, arith, true, false, cond, take, drop, set, replicate, append_assoc}
+use Rattle.std.proofs.Common.{◌≡◌, ℕ, suc, ◌+◌, ◌-◌, ◌*◌, ◌<◌, ◌≤◌, ◌++◌, List, [], ◌∷◌, map, length, get_or, refl, sym, ap, ◌∙◌, subst, arith, true, false, cond, take, drop, set, replicate, append_assoc}
 use Rattle.std.proofs.Math.Seq.{set-append_seam}
 use Rattle.std.proofs.lemmas.List.{length-map, map-append, length-append, take-append-drop, append-nil}
 use Rattle.std.proofs.lemmas.List.FromFn.{filter_of_map_range_with_len_more, take-map-range_with_len}
@@ -7,12 +7,14 @@ use Rattle.std.proofs.lemmas.List.Elements.{filter-append}
 use Rattle.std.proofs.lemmas.Bool.Decides.{nat_tests}
 use Rattle.std.specs.Prelude.{filter, Bool, IsTrue, nat_lt}
 use Rattle.std.specs.List.{range_with_len}
+use Rattle.spk_num.specs.declared.style.Style.{Style}
 use Rattle.spk_lattice.specs.declared.table.Row.{Row}
 use Rattle.spk_lattice.specs.declared.table.Step.{Step}
 use Rattle.spk_lattice.specs.declared.table.Offset.{Offset}
 use Rattle.spk_lattice.specs.Layout.{Layout, basis_of}
-use Rattle.spk_lattice.specs.Neighbours.{offsets, leads, offset_at}
-use Rattle.spk_lattice.specs.Table.{step_of, no_step, filled, added, steps_of, first_steps, row_at}
+use Rattle.spk_lattice.specs.Neighbours.{offsets, leads, offset_at, degree_of}
+use Rattle.spk_lattice.specs.Table.{step_of, no_step, filled, added, steps_of, first_steps, row_at, table_of}
+use Rattle.spk_lattice.proofs.Spots.{some_basis}
 use Rattle.spk_lattice.proofs.Tables.{few}
 
 added_steps : (xs : List Step) (s : Step) (n : ℕ) → length xs + suc n ≡ 26 → set (xs ++ replicate (26 - length xs) no_step) (length xs) s ≡ (xs ++ s ∷ []) ++ replicate (26 - (length xs + 1)) no_step
@@ -120,3 +122,10 @@ first_past l b points is past = let less : nat_lt b (basis_of l.style) ≡ false
 pub row_is : (l : Layout) (b : ℕ) → b < basis_of l.style → row_at l b ≡ filled (map (step_of l b) (offsets l.style b))
 unfolding row_at
 row_is l b less = ap filled (steps_are l b less)
+
+-- the table's first row counts the neighbours of a site
+pub degree_is : (l : Layout) (table : List Row) (row : Row) → table_of l ≡ table → (get_or table 0 row).count ≡ degree_of l.style
+unfolding degree_of
+degree_is l table row are =
+    let first : get_or table 0 row ≡ row_at l 0 = ap (λ (rows : List Row). get_or rows 0 row) (sym are) in
+    ap (λ (r : Row). r.count) (first ∙ row_is l 0 (some_basis l.style)) ∙ length-map (offsets l.style 0) (step_of l 0)

@@ -73,7 +73,7 @@ pub record IsSized (l : Layout) : Type 0 where
   pub z : 0 < l.nz
   pub basis : 0 < basis_of l.style
 
-some_basis : (style : Style) → 0 < basis_of style
+pub some_basis : (style : Style) → 0 < basis_of style
 some_basis Line2 = omega arith
 some_basis Sq4 = omega arith
 some_basis Sq8 = omega arith

@@ -5,11 +5,13 @@ use Rattle.std.proofs.lemmas.Simd.{map-map}
 use Rattle.std.proofs.lemmas.List.Elements.{Contains-get_or, All-from_get_or}
 use Rattle.std.specs.Prelude.{Contains, All}
 use Rattle.spk_lattice.specs.Hops.{IsMutual, IsWithin}
+use Rattle.spk_num.specs.declared.style.Style.{Style}
+use Rattle.spk_num.specs.declared.style.Style.TheVariants.{Line2, Sq4, Sq8, Tri, Sc6, Sc26, Bcc, Fcc}
 use Rattle.spk_lattice.specs.Layout.{Layout, IsLattice}
-use Rattle.spk_lattice.specs.Neighbours.{Spot, IsSpot, IsId, Offset, id_of, spot_of, moved, offsets, nb}
+use Rattle.spk_lattice.specs.Neighbours.{Spot, IsSpot, IsId, Offset, id_of, spot_of, moved, offsets, nb, degree_of}
 use Rattle.spk_lattice.proofs.Hops.{within_back}
 use Rattle.spk_lattice.proofs.Tables.{IsGood, good, back_of, few, near_count, count_is}
-use Rattle.spk_lattice.proofs.Spots.{IsSized, sized, spot_id, id_spot, id_exists, spot_is, wrapped_back, wrapped_less}
+use Rattle.spk_lattice.proofs.Spots.{IsSized, sized, some_basis, spot_id, id_spot, id_exists, spot_is, wrapped_back, wrapped_less}
 
 contains_map : {A : Type 0} (f : A → ℕ) (xs : List A) (x : A) → Contains xs x → Contains (map f xs) (f x)
 contains_map f xs x (k, less, is) = (k, rw (length-map xs f) less, get_or-map f xs k x (f x) less ∙ ap f is)
@@ -115,3 +117,26 @@ near_step l id j lattice exists next =
 -- as many hops lead back
 pub within_both : (l : Layout) (d i j : ℕ) → IsLattice l → IsId l i → IsWithin (nb l) d i j → IsWithin (nb l) d j i
 within_both l d i j lattice exists there = within_back (nb l) (IsId l) d i j (both_ways l lattice) exists there
+
+-- a site of a lattice has as many neighbours as the style says, two at least
+pub near_degree : (l : Layout) (id : ℕ) → IsLattice l → IsId l id → length (nb l id) ≡ degree_of l.style
+unfolding degree_of
+near_degree l id lattice exists = near_count_is l id lattice exists ∙ sym (count_is l.style 0 (sized l lattice).basis)
+
+count_some : (style : Style) → 2 ≤ near_count style
+count_some Line2 = omega arith
+count_some Sq4 = omega arith
+count_some Sq8 = omega arith
+count_some Tri = omega arith
+count_some Sc6 = omega arith
+count_some Sc26 = omega arith
+count_some Bcc = omega arith
+count_some Fcc = omega arith
+
+pub degree_some : (style : Style) → 2 ≤ degree_of style
+unfolding degree_of
+degree_some style = rw (count_is style 0 (some_basis style)) (count_some style)
+
+pub degree_few : (style : Style) → degree_of style ≤ 26
+unfolding degree_of
+degree_few style = few style 0

@@ -1,5 +1,5 @@
 -- The sites of a lattice by their ids, and their neighbours.
-use Rattle.std.specs.Prelude.{ℕ, ◌+◌, ◌-◌, ◌*◌, ◌/◌, ◌%◌, ◌==◌, ◌<◌, ◌≤◌, Bool, ◌&&◌, List, [], ◌∷◌, map, filter, take, slice_index, slice_index_or, ℤ, pos}
+use Rattle.std.specs.Prelude.{ℕ, ◌+◌, ◌-◌, ◌*◌, ◌/◌, ◌%◌, ◌==◌, ◌<◌, ◌≤◌, Bool, ◌&&◌, List, [], ◌∷◌, map, filter, length, take, slice_index, slice_index_or, ℤ, pos}
 use Rattle.std.specs.List.{range_with_len, list_any}
 use Rattle.spk_num.specs.declared.style.Style.{Style}
 pub use Rattle.spk_lattice.specs.declared.grid.Spot.{Spot}
@@ -85,6 +85,10 @@ touching points = map (offset_at points) (range_with_len 0 (27 * points))
 -- the offsets of a basis point's neighbours
 unfoldable pub offsets : Style → ℕ → List Offset
 offsets style basis = filter (leads style basis) (touching (basis_of style))
+
+-- how many neighbours a site has
+unfoldable pub degree_of : Style → ℕ
+degree_of style = length (offsets style 0)
 
 -- a coordinate after a move by d - 1, where the last cell touches the first
 abbrev pub wrapped : ℕ → ℕ → ℕ → ℕ

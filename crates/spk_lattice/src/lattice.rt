@@ -3,7 +3,7 @@
 ghost use Rattle.std.specs.Prelude.{◌≡◌, ◌≤◌, ◌+◌, ◌*◌, ◌∷◌, [], pos, All};
 ghost use Rattle.spk_lattice.specs.Layout.{IsLattice, lattice_of, sites_of, dimensions_of, basis_of};
 ghost use Rattle.spk_lattice.specs.Shapes.{IsPoint};
-ghost use Rattle.spk_lattice.specs.Neighbours.{IsId, IsSpot, spot_in, id_of, spot_of, place_of, point_of, coordinates, ids_of, nb};
+ghost use Rattle.spk_lattice.specs.Neighbours.{IsId, IsSpot, spot_in, id_of, spot_of, place_of, point_of, coordinates, degree_of, ids_of, nb};
 
 use crate::grid::{Grid, Spot};
 use crate::neighbours::Neighbours;
@@ -125,6 +125,14 @@ impl Lattice {
         style_row(self.grid.style()).dimensions
     }
 
+    /// How many neighbours a site has.
+    pub fn degree(&self) -> u32
+        ensures degree { result ≡ degree_of self.now.style }
+        ensures few { result ≤ 26 }
+    {
+        self.table[0].count
+    }
+
     /// How many sites there are, at most 4194304.
     pub fn sites(&self) -> u32
         ensures count { result ≡ sites_of self.now }
@@ -232,6 +240,7 @@ mod tests {
         assert_eq!(rt; crate::dimensions(Style::Fcc), 3);
         lattice.known();
         assert_eq!(rt; lattice.sites(), 10);
+        assert_eq!(rt; lattice.degree(), 2);
     }
 
     #[test]
