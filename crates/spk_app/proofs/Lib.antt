@@ -1,0 +1,4 @@
+pub mod Frames
+pub mod Listed
+pub mod Places
+pub mod Weighing

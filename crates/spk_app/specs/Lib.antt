@@ -1,0 +1,5 @@
+pub mod Applications
+pub mod Laws
+pub mod PlainViews
+pub mod Sights
+pub mod Weights

@@ -1,0 +1,77 @@
+//! A square of nine sites, whose first one has the neighbours 9, 7, 8, 3, 2, 6, 4 and 5.
+
+ghost use Rattle.std.specs.Prelude.{◌≡◌, ◌<◌, ◌≤◌, IfOk, IsTrue, length};
+ghost use Rattle.spk_app.specs.Sights.{with_value};
+
+use super::*;
+use crate::near_values::NearValues;
+use spk_lattice::Style;
+use std::alloc::{AllocError, Global};
+use std::process::Abort;
+use std::test::Fail;
+
+/// A square of nine sites with eight neighbours each, whose values are ten times their ids.
+fn square(rt: &impl Abort, alloc: Global) -> Result<PlainView, AllocError>
+    ensures { IfOk result (λ sites. length sites.values ≡ 9) }
+{
+    let lattice = match Lattice::new(Style::Sq8, 3, 3, 1) {
+        Ok(lattice) => lattice,
+        Err(_) => panic!(rt; "there is such a lattice"),
+    };
+    assert_eq!(rt; lattice.sites(), 9);
+    let values = vec![in alloc; 10, 20, 30, 40, 50, 60, 70, 80, 90]?;
+    Ok(PlainView::new(&lattice, values))
+}
+
+fn value_at<V: View>(view: &V, i: usize) -> u32
+    requires { i < length (V.sight view.now).values }
+{
+    view.value(i)
+}
+
+fn give<V: View>(view: &mut V, i: usize, value: u32)
+    requires { i < length (V.sight view.old).values }
+    ensures { V.sight view.new ≡ with_value i value (V.sight view.old) }
+{
+    view.put(i, value);
+}
+
+fn places_near<V: View>(view: &V, i: usize) -> Neighbours
+    requires place { i < length (V.sight view.now).values }
+    requires whole { IsTrue (V.whole view.now i) }
+    ensures { result.count ≤ 26 }
+{
+    view.neighbours(i)
+}
+
+fn values_near<V: View>(view: &V, i: usize) -> NearValues
+    requires place { i < length (V.sight view.now).values }
+    requires whole { IsTrue (V.whole view.now i) }
+{
+    view.values_near(i)
+}
+
+#[test]
+fn shows_a_square(rt: HostRuntime) -> Result<(), Fail> {
+    let mut view = square(&rt, rt.alloc())?;
+    assert_eq!(rt; value_at(&view, 4), 50);
+    assert_eq!(rt;
+        places_near(&view, 0).as_slice(),
+        [8, 6, 7, 2, 1, 5, 3, 4].as_slice()
+    );
+    assert_eq!(rt;
+        values_near(&view, 0).as_slice(),
+        [90, 70, 80, 30, 20, 60, 40, 50].as_slice()
+    );
+    give(&mut view, 7, 5);
+    assert_eq!(rt; value_at(&view, 7), 5);
+    assert_eq!(rt;
+        values_near(&view, 0).as_slice(),
+        [90, 70, 5, 30, 20, 60, 40, 50].as_slice()
+    );
+    assert_eq!(rt;
+        view.into_values().as_slice(),
+        [10, 20, 30, 40, 50, 60, 70, 5, 90].as_slice()
+    );
+    Ok(())
+}
