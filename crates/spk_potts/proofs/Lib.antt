@@ -1,0 +1,5 @@
+pub mod IsingSteps
+pub mod PottsSteps
+pub mod Proposing
+pub mod Surroundings
+pub mod Values
