@@ -1,0 +1,23 @@
+use Rattle.std.proofs.Common.{ℕ}
+use Rattle.spk_app.specs.Weights.{weight_between}
+use Rattle.spk_diffusion.specs.Diffusion.{crowd_but}
+use Rattle.spk_diffusion.proofs.Listing.{vacant_more, occupied_more, hops_all}
+use Rattle.spk_diffusion.proofs.diffusion.weighed_hops.Goals as goal
+use Rattle.spk_diffusion.proofs.diffusion.weighed_hops.Goals.{then-value-eq-VACANT, else-value-eq-VACANT}
+
+pub loop-mark-preserved : goal.loop-mark-preserved
+loop-mark-preserved g c =
+    let weight : ℕ → ℕ = λ j. weight_between c.args.weights.now (crowd_but (g.V.View.sight c.args.view.now) c.args.old j) c.args.crowd in
+    elim c.if-value-eq-VACANT.branch [
+      | then-value-eq-VACANT w ↦
+          vacant_more weight (g.V.View.sight c.args.view.now) c.loop-mark.mark c.value.result w.between-weight.result c.as_slice-j-items.result.now c.loop-mark.hops w.push.new.self _ c.loop-mark.invariant c.loop-mark-test.true c.value.ensures
+          w.if-value-eq-VACANT.true (rw w.crowd_but.ensures.count at w.between-weight.ensures.weight) w.push.ensures.events w.push.ensures.count w.hops-is
+      | else-value-eq-VACANT w ↦
+          occupied_more weight (g.V.View.sight c.args.view.now) c.loop-mark.mark c.value.result c.as_slice-j-items.result.now c.loop-mark.hops _ c.loop-mark.invariant c.loop-mark-test.true c.value.ensures
+          w.if-value-eq-VACANT.false w.hops-is
+    ]
+
+pub returns-clause-events : goal.returns-clause-events
+returns-clause-events g c =
+    let weight : ℕ → ℕ = λ j. weight_between c.args.weights.now (crowd_but (g.V.View.sight c.args.view.now) c.args.old j) c.args.crowd in
+    hops_all weight (g.V.View.sight c.args.view.now) c.loop-mark.mark c.as_slice-j-items.result.now _ c.loop-mark.hops c.loop-mark.invariant c.loop-mark-test.false c.as_slice-j-items.ensures.ids

@@ -1,0 +1,7 @@
+use Rattle.std.proofs.Common.{◌-◌}
+use Rattle.spk_app.specs.PlainViews.{sight_of}
+use Rattle.spk_diffusion.proofs.Viewing.{all_seen}
+use Rattle.spk_diffusion.proofs.tests.propensities.Goals as goal
+
+pub propensity-requires-clause-seen : goal.propensity-requires-clause-seen
+propensity-requires-clause-seen g c = all_seen (sight_of c.args.view.now).near (g.A.App.PROP - 1) c.loop-place.place

@@ -1,0 +1,4 @@
+pub mod Diffusion
+pub mod HopFacts
+pub mod Laws
+pub mod Locality

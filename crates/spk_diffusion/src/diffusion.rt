@@ -1,0 +1,229 @@
+//! Diffusion: atoms that hop to vacant sites beside them.
+
+ghost use Rattle.std.specs.Prelude.{◌≡◌, ◌^◌, ◌<◌, ◌≤◌, ◌==◌, All, IsTrue, count_by, false, length, map, slice_index};
+ghost use Rattle.spk_lattice.specs.Neighbours.{ids_of};
+ghost use Rattle.spk_app.specs.Applications.{listed};
+ghost use Rattle.spk_app.specs.Sights.{with_written};
+ghost use Rattle.spk_app.specs.Weights.{weight_between};
+ghost use Rattle.spk_diffusion.specs.Diffusion.{crowd_but, diffusion, exchange, hops_to};
+ghost use Rattle.spk_diffusion.specs.Laws.{diffusion_bounded, diffusion_narrow, diffusion_stays_valid};
+ghost use Rattle.spk_diffusion.specs.Locality.{diffusion_local};
+
+use spk_app::{App, Events, Neighbours, Steps, View, WeightTable};
+use spk_lattice::{Lattice, Style};
+use spk_num::Stream;
+use std::marker::Model;
+use std::sync::ledger::Ledger;
+
+/// The value of a vacant site.
+const VACANT: u32 = 1;
+
+/// The value of a site that an atom occupies.
+const OCCUPIED: u32 = 2;
+
+/// The weight of a hop that doesn't raise the energy, in units of 2^-30.
+const WHOLE_WEIGHT: u32 = 1 << 30;
+
+/// Atoms that hop to vacant sites beside them, where energies are off or linear. They are modelled on SPPARKS's
+/// `diffusion`. The order of the hops of a site is a rule of our own.
+#[derive(Clone, Copy, Debug)]
+pub struct Diffusion {
+    linear: bool,
+    style: Style,
+    /// How many neighbours a site has.
+    degree: u32,
+    weights: WeightTable,
+}
+
+impl Model for Diffusion {
+    ghost use Rattle.std.specs.Prelude.{◌≡◌};
+    ghost use Rattle.spk_lattice.specs.Neighbours.{degree_of};
+    ghost use Rattle.spk_diffusion.specs.Diffusion.{DiffusionSettings};
+
+    ghost Value = { DiffusionSettings };
+
+    ghost view = { λ d. record { linear = d.linear; style = d.style; temperature = d.weights } };
+
+    ghost invariant = { λ d. degree_of d.style ≡ d.degree };
+
+    ghost inverse = { λ d. record { linear = d.linear; style = d.style; degree = degree_of d.style; weights = d.temperature } };
+
+    ghost inverse_ok = { λ d is i. record { linear = d.linear; style = d.style; degree = is i; weights = d.weights } };
+}
+
+impl Diffusion {
+    /// Diffusion on a lattice at a temperature in millionths, where energies are linear or off.
+    pub fn new(linear: bool, lattice: &Lattice, t: u64) -> Diffusion
+        ensures { result ≡ record { linear = linear; style = lattice.now.style; temperature = t } }
+    {
+        Diffusion {
+            linear,
+            style: lattice.style(),
+            degree: lattice.degree(),
+            weights: WeightTable::new(t),
+        }
+    }
+}
+
+/// How many of some places have this value.
+fn count_near<V: View>(view: &V, near: &Neighbours, value: u32) -> u32
+    requires few { near.now.count ≤ 26 }
+    requires inside { All (λ j. j < length (V.sight view.now).values) (ids_of near.now) }
+    ensures count { result ≡ count_by (λ v. v == value) (map (slice_index (V.sight view.now).values) (ids_of near.now)) }
+    ensures few { result ≤ 26 }
+{
+    let mut count = 0;
+    for j in near.as_slice() {
+        if view.value(*j as usize) == value {
+            count += 1;
+        }
+    }
+    count
+}
+
+/// How many neighbours of a new place are occupied, but for the old place.
+fn crowd_but<V: View>(view: &V, old: usize, new: usize) -> u32
+    requires place { new < length (V.sight view.now).values }
+    requires whole { IsTrue (V.whole view.now new) }
+    ensures count { result ≡ crowd_but (V.sight view.now) old new }
+    ensures few { result ≤ 26 }
+{
+    let near = view.neighbours(new);
+    let mut crowd = 0;
+    for k in near.as_slice() {
+        let place = *k as usize;
+        if place != old && view.value(place) == OCCUPIED {
+            crowd += 1;
+        }
+    }
+    crowd
+}
+
+/// The hops to those of some places that are vacant, where energies are off.
+fn free_hops<V: View>(view: &V, near: &Neighbours) -> Events
+    requires few { near.now.count ≤ 26 }
+    requires inside { All (λ j. j < length (V.sight view.now).values) (ids_of near.now) }
+    ensures events { listed result ≡ hops_to (λ _. 2 ^ 30) (V.sight view.now) 0 (ids_of near.now) }
+    ensures few { result.count ≤ 26 }
+{
+    let mut hops = Events::none();
+    for (mark, j) in near.as_slice().iter().enumerate() {
+        if view.value(*j as usize) == VACANT {
+            hops.push(mark as u32, WHOLE_WEIGHT);
+        }
+    }
+    hops
+}
+
+/// The hops from an old place to those of some places that are vacant, where energies are linear. `crowd` is how many
+/// neighbours of the old place are occupied.
+fn weighed_hops<V: View>(
+    view: &V,
+    old: usize,
+    near: &Neighbours,
+    crowd: u32,
+    weights: &WeightTable,
+) -> Events
+    requires few { near.now.count ≤ 26 }
+    requires inside { All (λ j. j < length (V.sight view.now).values) (ids_of near.now) }
+    requires whole { All (λ j. IsTrue (V.whole view.now j)) (ids_of near.now) }
+    requires crowd { crowd ≤ 26 }
+    ensures events { listed result
+        ≡ hops_to (λ j. weight_between weights.now (crowd_but (V.sight view.now) old j) crowd)
+        (V.sight view.now) 0 (ids_of near.now) }
+    ensures few { result.count ≤ 26 }
+{
+    let mut hops = Events::none();
+    for (mark, j) in near.as_slice().iter().enumerate() {
+        let new = *j as usize;
+        if view.value(new) == VACANT {
+            let weight = weights.between(crowd_but(view, old, new), crowd);
+            hops.push(mark as u32, weight);
+        }
+    }
+    hops
+}
+
+/// Two places exchange their values.
+fn exchange<V: View>(view: &mut V, i: usize, j: usize)
+    requires i { i < length (V.sight view.old).values }
+    requires j { j < length (V.sight view.old).values }
+    ensures sight { V.sight view.new ≡ with_written (exchange (V.sight view.old) i j) (V.sight view.old) }
+    ensures frame { V.frame view.new ≡ V.frame view.old }
+    ensures whole { V.whole view.new ≡ V.whole view.old }
+{
+    let first = view.value(i);
+    let second = view.value(j);
+    view.put(i, second);
+    view.put(j, first);
+}
+
+impl App for Diffusion {
+    const PROP: u32 = 2;
+
+    const STEP: u32 = 1;
+
+    const SWEEPS: bool = false;
+
+    ghost PROP = { 2 };
+
+    ghost STEP = { 1 };
+
+    ghost SWEEPS = { false };
+
+    ghost rules = { λ d. diffusion d };
+
+    fn largest(&self) -> u64 {
+        u64::from(self.degree) * u64::from(WHOLE_WEIGHT)
+    }
+
+    fn valid(&self, v: u32) -> bool {
+        v == VACANT || v == OCCUPIED
+    }
+
+    fn events<V: View, L: Ledger>(&self, view: &V, i: usize, steps: &mut Steps<L>) -> Events {
+        steps.tick();
+        if view.value(i) != OCCUPIED {
+            return Events::none();
+        }
+        let near = view.neighbours(i);
+        if self.linear {
+            let crowd = count_near(view, &near, OCCUPIED);
+            weighed_hops(view, i, &near, crowd, &self.weights)
+        } else {
+            free_hops(view, &near)
+        }
+    }
+
+    fn apply<V: View>(&self, view: &mut V, i: usize, mark: u32) {
+        let near = view.neighbours(i);
+        exchange(view, i, near.as_slice()[mark as usize] as usize);
+    }
+
+    /// There are no trials: nothing is written or drawn.
+    fn trial<V: View>(&self, view: &mut V, i: usize, stream: &mut Stream) -> bool
+        ensures sight { V.sight view.new ≡ V.sight view.old }
+        ensures stream { stream.new ≡ stream.old }
+        ensures changed { result ≡ false }
+        ensures frame { V.frame view.new ≡ V.frame view.old }
+        ensures whole { V.whole view.new ≡ V.whole view.old }
+    {
+        false
+    }
+
+    fn energy<V: View>(&self, view: &V, i: usize) -> u32 {
+        if self.linear && view.value(i) == OCCUPIED {
+            count_near(view, &view.neighbours(i), VACANT)
+        } else {
+            0
+        }
+    }
+
+    ghost local = { λ d. diffusion_local d };
+
+    ghost bounded = { λ d. diffusion_bounded d };
+
+    ghost stays_valid = { λ d. diffusion_stays_valid d };
+
+    ghost narrow = { diffusion_narrow };
+}
