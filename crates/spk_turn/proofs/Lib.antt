@@ -1,0 +1,12 @@
+pub mod Adding
+pub mod Anew
+pub mod Events
+pub mod Gathering
+pub mod Hops
+pub mod Levels
+pub mod Listed
+pub mod Names
+pub mod Plain
+pub mod PlainPlaces
+pub mod Steps
+pub mod Totals

@@ -1,0 +1,65 @@
+use Rattle.std.proofs.Common.{arith, ap, sym, subst, ◌∙◌, ◌≡◌, ◌<◌, ◌+◌, List, ℕ, get_or, length}
+use Rattle.spk_turn.specs.Reached.{places_of, with_places}
+use Rattle.spk_turn.proofs.Gathering.{IsWidened, gathered_none, widened_none, widened_more, widened_all, place_read, place_inside, no_more}
+use Rattle.spk_turn.proofs.gather.gather.Goals as goal
+
+pub hops-init : goal.hops-init
+hops-init g c = record {
+  count = omega (arith, c.only-gathered.ensures.count);
+  gathered = rw c.only-gathered.ensures.places (gathered_none (g.V.View.sight c.args.view.now).near c.args.origin);
+}
+
+pub loop-k-init : goal.loop-k-init
+loop-k-init g c = record {
+  count = c.hops.invariant.count;
+  widened = widened_none (g.V.View.sight c.args.view.now).near c.hops.counter (c.hops.counter + 1) c.args.origin c.hops.first (places_of c.hops.gathered) (omega arith) c.hops.invariant.gathered;
+}
+
+pub neighbours-near-requires-clause-place : goal.neighbours-near-requires-clause-place
+neighbours-near-requires-clause-place g c =
+    let n : ℕ = length (g.V.View.sight c.args.view.now).values in
+    let k : ℕ = c.loop-k.k in
+    let before : List ℕ = places_of c.hops.gathered in
+    let less : k < length before = omega (arith, ap length c.as_slice-last.ensures.places) in
+    let place : get_or before k 0 ≡ get_or c.as_slice.result.now k 0 = place_read k before (places_of c.loop-k.gathered) c.as_slice.result.now c.as_slice.ensures.places c.loop-k.invariant.widened.begins less in
+    let inside : get_or before k 0 < n =
+    place_inside (g.V.View.sight c.args.view.now).near n c.hops.counter c.args.origin c.hops.first k before c.requires.mutual c.requires.place less c.hops.invariant.gathered in
+    subst (λ m. m < n) place inside
+
+pub add_all-requires-clause-room : goal.add_all-requires-clause-room
+add_all-requires-clause-room g c =
+    let near : ℕ → List ℕ = (g.V.View.sight c.args.view.now).near in
+    let k : ℕ = c.loop-k.k in
+    let hop : ℕ = c.hops.counter + 1 in
+    let before : List ℕ = places_of c.hops.gathered in
+    let less : k < length before = omega (arith, ap length c.as_slice-last.ensures.places) in
+    let place : get_or before k 0 ≡ get_or c.as_slice.result.now k 0 = place_read k before (places_of c.loop-k.gathered) c.as_slice.result.now c.as_slice.ensures.places c.loop-k.invariant.widened.begins less in
+    let beside : c.as_slice-in-loop-k.result.now ≡ near (get_or before k 0) = c.as_slice-in-loop-k.ensures.ids ∙ c.neighbours-near.ensures.ids ∙ ap near (sym place) in
+    let after : List ℕ = with_places (places_of c.loop-k.gathered) (near (get_or before k 0)) in
+    let widened : IsWidened near hop c.args.origin (k + 1) before after =
+    widened_more near c.hops.counter hop c.args.origin c.hops.first k before (places_of c.loop-k.gathered) (omega arith) less c.hops.invariant.gathered c.loop-k.invariant.widened in
+    rw beside (no_more near hop c.args.hops c.args.origin 729 after (omega arith) widened.reached c.requires.room)
+
+pub loop-k-preserved : goal.loop-k-preserved
+loop-k-preserved g c =
+    let near : ℕ → List ℕ = (g.V.View.sight c.args.view.now).near in
+    let k : ℕ = c.loop-k.k in
+    let before : List ℕ = places_of c.hops.gathered in
+    let less : k < length before = omega (arith, ap length c.as_slice-last.ensures.places) in
+    let place : get_or before k 0 ≡ get_or c.as_slice.result.now k 0 = place_read k before (places_of c.loop-k.gathered) c.as_slice.result.now c.as_slice.ensures.places c.loop-k.invariant.widened.begins less in
+    let beside : c.as_slice-in-loop-k.result.now ≡ near (get_or before k 0) = c.as_slice-in-loop-k.ensures.ids ∙ c.neighbours-near.ensures.ids ∙ ap near (sym place) in
+    record {
+      count = c.add_all.ensures.count;
+      widened = rw (c.add_all.ensures.places, beside)
+          (widened_more near c.hops.counter (c.hops.counter + 1) c.args.origin c.hops.first k before (places_of c.loop-k.gathered) (omega arith) less c.hops.invariant.gathered c.loop-k.invariant.widened);
+    }
+
+pub hops-preserved : goal.hops-preserved
+hops-preserved g c =
+    let before : List ℕ = places_of c.hops.gathered in
+    let are : c.as_slice-last.result.now ≡ before = c.as_slice-last.ensures.places in
+    record {
+      count = c.loop-k.invariant.count;
+      gathered = rw are
+          (widened_all (g.V.View.sight c.args.view.now).near c.hops.counter (c.hops.counter + 1) c.args.origin c.hops.first c.loop-k.k before (places_of c.loop-k.gathered) (omega arith) (omega (arith, ap length are)) c.hops.invariant.gathered c.loop-k.invariant.widened);
+    }

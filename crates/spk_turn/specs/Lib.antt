@@ -1,0 +1,4 @@
+pub mod Choice
+pub mod Reached
+pub mod Ready
+pub mod Turns

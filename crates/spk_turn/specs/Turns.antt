@@ -1,0 +1,103 @@
+-- A turn: events of the sites of a sector, one after another, by the kinetic Monte Carlo rule of SPPARKS's manual. The order of
+-- sites and events, the draws and the waiting times are our own rules.
+use Rattle.std.specs.Prelude.{ℕ, zero, suc, ◌+◌, ◌-◌, ◌^◌, ◌==◌, nat_le, if◌then◌else◌, min, List, map, sum, flat_map, Option, Some, None}
+use Rattle.std.specs.List.{range_with_len}
+use Rattle.spk_num.specs.Draws.{next_state, below_two_of}
+use Rattle.spk_num.specs.Logarithm.{wait_of}
+use Rattle.spk_app.specs.Sights.{Sight, written}
+use Rattle.spk_app.specs.Applications.{Application, Event, propensity}
+use Rattle.spk_turn.specs.Choice.{named}
+use Rattle.spk_turn.specs.declared.counts.Counts.{Counts}
+
+-- what a turn is of: an application, the places beside each place, and the places of the sites that may change, in the order of
+-- their ids
+pub record Sector : Type 0 where
+  pub application : Application
+  pub near : ℕ → List ℕ
+  pub places : List ℕ
+
+-- all places of so many are one sector
+abbrev pub all_places : Application → (ℕ → List ℕ) → ℕ → Sector
+all_places application near count = record { application = application; near = near; places = range_with_len 0 count }
+
+-- an event with the place of its site
+pub record SiteEvent : Type 0 where
+  pub place : ℕ
+  pub event : Event
+
+abbrev pub at_site : ℕ → Event → SiteEvent
+at_site place event = record { place = place; event = event }
+
+abbrev pub weight_of : SiteEvent → ℕ
+weight_of e = e.event.weight
+
+abbrev pub seen : Sector → List ℕ → Sight
+seen sector values = record { values = values; near = sector.near }
+
+abbrev pub events_at : Sector → List ℕ → ℕ → List Event
+events_at sector values place = sector.application.events (seen sector values) place
+
+abbrev pub site_events : Sector → List ℕ → ℕ → List SiteEvent
+site_events sector values place = map (at_site place) (events_at sector values place)
+
+-- all events of a sector, in the order of its sites
+unfoldable pub all_events : Sector → List ℕ → List SiteEvent
+all_events sector values = flat_map (site_events sector values) sector.places
+
+unfoldable pub propensities : Sector → List ℕ → List ℕ
+propensities sector values = map (λ place. propensity (events_at sector values place)) sector.places
+
+abbrev pub total : Sector → List ℕ → ℕ
+total sector values = sum (propensities sector values)
+
+abbrev pub after_event_of : Sector → List ℕ → Option SiteEvent → List ℕ
+after_event_of sector values None = values
+after_event_of sector values (Some e) = written (sector.application.writes (seen sector values) e.place e.event.mark) values
+
+-- what the turns of a rank change: the values of the sites, the stream from which it draws in the sector, and its events since
+-- the run's start
+pub record RankState : Type 0 where
+  pub values : List ℕ
+  pub stream : ℕ
+  pub counts : Counts
+
+-- the draws before an event: two that choose it, and one for the time that it takes
+abbrev pub target : Sector → RankState → ℕ
+target sector state = below_two_of (total sector state.values) (next_state state.stream) (next_state (next_state state.stream))
+
+abbrev pub stream_after : RankState → ℕ
+stream_after state = next_state (next_state (next_state state.stream))
+
+abbrev pub wait_before : Sector → RankState → ℕ
+wait_before sector state = wait_of (total sector state.values) (stream_after state)
+
+-- a count ends at the last value of 64 bits
+abbrev pub counts_sum : Counts → Counts → Counts
+counts_sum some more = record { accepted = min (some.accepted + more.accepted) (2 ^ 64 - 1); rejected = min (some.rejected + more.rejected) (2 ^ 64 - 1) }
+
+abbrev pub with_accepted : Counts → Counts
+with_accepted counts = record counts { accepted = min (counts.accepted + 1) (2 ^ 64 - 1) }
+
+abbrev pub no_counts : Counts
+no_counts = record { accepted = 0; rejected = 0 }
+
+-- after the event that the target names
+abbrev pub after_event : Sector → RankState → RankState
+after_event sector state = record {
+  values = after_event_of sector state.values (named weight_of (target sector state) (all_events sector state.values));
+  stream = stream_after state;
+  counts = with_accepted state.counts;
+}
+
+-- A turn from this local time on, of at most so many events. Propensities are taken afresh before each. It stops where
+-- their total is 0, and where the next event would reach the end of the window: that event isn't done.
+unfoldable pub turn_from : Sector → ℕ → ℕ → ℕ → RankState → RankState
+turn_from sector zero window local state = state
+turn_from sector (suc more) window local state =
+    if total sector state.values == 0 then state
+    else (if nat_le window (local + wait_before sector state) then record state { stream = stream_after state }
+    else turn_from sector more window (local + wait_before sector state) (after_event sector state))
+
+-- a turn with a window of so many ticks: each event takes one at least, so no more of them are done
+abbrev pub turn_of : Sector → ℕ → RankState → RankState
+turn_of sector window state = turn_from sector window window 0 state
