@@ -14,11 +14,11 @@ use Rattle.spk_num.specs.declared.decimal.Dec.{Dec}
 use Rattle.spk_num.specs.declared.decimal.DecFault.{DecFault}
 use Rattle.spk_num.specs.declared.shape.Bound.TheVariants.{At, Open}
 use Rattle.spk_cmds.specs.declared.command.CommandFault.{CommandFault}
-use Rattle.spk_cmds.specs.declared.command.CommandFault.TheVariants.{OutOfRange, NotBuilt, BadName, WrongCount}
+use Rattle.spk_cmds.specs.declared.command.CommandFault.TheVariants.{OutOfRange, BadName, WrongCount}
 use Rattle.spk_cmds.specs.declared.value.Value.{Value}
 use Rattle.spk_cmds.specs.declared.value.Value.TheVariants as value
 use Rattle.spk_cmds.specs.declared.value.Reading.{Reading}
-use Rattle.spk_cmds.specs.Kinds.{Kind, OneOf, WholeNumber, WholeUpToNext, DecimalNumber, DecimalBuiltTo, BoundNumber, NameWord, FileWord, AnyWord, is_open, formed, whole_or_out, is_inside, inside_or_out, decimal_in, next_number, built_to, valued}
+use Rattle.spk_cmds.specs.Kinds.{Kind, OneOf, WholeNumber, WholeUpToNext, DecimalNumber, BoundNumber, NameWord, FileWord, AnyWord, is_open, formed, whole_or_out, is_inside, inside_or_out, decimal_in, next_number, valued}
 use Rattle.spk_cmds.specs.Forms.{Form, Keyword, Tail, NoTail, Pairs, Optional, Counted, UpTo, is_count, is_tail_count, number_said, all_formed, each_formed, stands_in, keyword_kind, keyword_formed, pair_formed, pairs_formed, tail_formed, all_valued, each_valued, pairs_valued, tail_valued, words_formed, words_valued, form_read}
 use Rattle.spk_cmds.specs.Values.{number_by, decimal_by, bound_by, word_by, words_of, after_keyword, decimal_after_by, word_after_by}
 use Rattle.spk_cmds.specs.WellFormed.{IsFromTo, IsWithin, IsBoundWithin, IsName, IsFileName, Each}
@@ -33,10 +33,6 @@ bind_ok (Err fault) next b is = absurd (cc)
 passed : {A : Type 0} (test : Bool) (a b : A) (fault : CommandFault) → cond test (Ok a) (Err fault) ≡ Ok b → (test ≡ true) × (a ≡ b)
 passed true a b fault is = (refl, cc)
 passed false a b fault is = absurd (cc)
-
-not_passed : {A : Type 0} (test : Bool) (a b : A) (fault : CommandFault) → cond test (Err fault) (Ok a) ≡ Ok b → a ≡ b
-not_passed true a b fault is = absurd (cc)
-not_passed false a b fault is = cc
 
 within_by : (low high z : ℤ) → is_inside low high z ≡ true → IsWithin low high (record { millionths = z })
 within_by (pos low) (pos high) (pos n) is =
@@ -82,7 +78,6 @@ abbrev pub IsOf : Kind → Option Value → Type 0
 IsOf (WholeNumber low high) v = IsFromTo low high (number_by v)
 IsOf (WholeUpToNext low high) v = IsFromTo low high (number_by v)
 IsOf (DecimalNumber low high) v = IsWithin low high (decimal_by v)
-IsOf (DecimalBuiltTo low high built) v = IsWithin low high (decimal_by v)
 IsOf (BoundNumber low high) v = IsBoundWithin low high (bound_by v)
 IsOf NameWord v = IsName (word_by v)
 IsOf FileWord v = IsFileName (word_by v)
@@ -97,7 +92,7 @@ bound_of low high word false v is =
     subst (λ v. IsOf (BoundNumber low high) (Some v)) its (decimal_within low high word found.0 found.1.0)
 
 pub value_is_of : (kind : Kind) (word : List ℕ) (words : List (List ℕ)) (v : Value) → formed kind word ≡ Ok tt → valued kind word words ≡ Ok v → IsOf kind (Some v)
-unfolding formed valued built_to
+unfolding formed valued
 value_is_of (OneOf built unbuilt) word words v form is = tt
 value_is_of AnyWord word words v form is = tt
 value_is_of (WholeNumber low high) word words v form is =
@@ -112,10 +107,6 @@ value_is_of (DecimalNumber low high) word words v form is =
     let found = bind_ok (decimal_in low high word) (λ d. Ok (value.Decimal d)) v is in
     let its : value.Decimal found.0 ≡ v = cc (found.1.1) in
     subst (λ v. IsOf (DecimalNumber low high) (Some v)) its (decimal_within low high word found.0 found.1.0)
-value_is_of (DecimalBuiltTo low high built) word words v form is =
-    let found = bind_ok (decimal_in low high word) (λ d. built_to built word d) v is in
-    let its = not_passed (int_lt built found.0.millionths) (value.Decimal found.0) v (NotBuilt word) found.1.1 in
-    subst (λ v. IsOf (DecimalBuiltTo low high built) (Some v)) its (decimal_within low high word found.0 found.1.0)
 value_is_of (BoundNumber low high) word words v form is = bound_of low high word (is_open word) v is
 value_is_of NameWord word words v form is =
     let its : value.Word word ≡ v = cc in
@@ -197,7 +188,6 @@ all_are_in before (kind ∷ kinds) (word ∷ words) values some forms is =
 -- the value after a keyword is of its kind, where that stands
 abbrev pub IsGiven : Kind → Option Value → Type 0
 IsGiven (DecimalNumber low high) given = IfSome (decimal_after_by given) (IsWithin low high)
-IsGiven (DecimalBuiltTo low high built) given = IfSome (decimal_after_by given) (IsWithin low high)
 IsGiven NameWord given = IfSome (word_after_by given) IsName
 IsGiven FileWord given = IfSome (word_after_by given) IsFileName
 IsGiven kind given = IfSome given (λ v. IsOf kind (Some v))

@@ -5,6 +5,7 @@ use Rattle.std.specs.Result.{IfOk}
 use Rattle.std.specs.Str.{bytes_eq}
 use Rattle.spk_num.specs.Results.{IsPlainOrMemory}
 use Rattle.spk_num.proofs.ResultLaws.{plain_is}
+use Rattle.spk_cmds.specs.declared.command.AppStyle.TheVariants.{DiffusionOff, DiffusionLinear}
 use Rattle.spk_cmds.specs.declared.command.Command.{Command}
 use Rattle.spk_cmds.specs.declared.command.CommandFault.{CommandFault}
 use Rattle.spk_cmds.specs.declared.command.CommandFault.TheVariants.{NotBuilt, UnknownStyle}
@@ -15,7 +16,7 @@ use Rattle.spk_cmds.specs.Forms.{Form, form_read}
 use Rattle.spk_cmds.specs.Makers.{made}
 use Rattle.spk_cmds.specs.Values.{word_at}
 use Rattle.spk_cmds.specs.Table as table
-use Rattle.spk_cmds.specs.WellFormed.{IsWellFormed}
+use Rattle.spk_cmds.specs.WellFormed.{IsApp, IsWellFormed}
 use Rattle.spk_cmds.proofs.ReadFacts.{IsReadBy, bind_ok, read_is_in}
 
 -- what values of a form's kinds make is well-formed
@@ -47,10 +48,18 @@ one_of_three false false = omega arith
 cylinder_sound : IsSound table.cylinder
 cylinder_sound reading read = let axis = word_at reading.values 2 in assumption (three, one_of_three (bytes_eq axis (codes "x")) (bytes_eq axis (codes "y")))
 
+-- so is diffusion, whatever its word is
+one_of_two : (test : Bool) → IsApp (cond test DiffusionOff DiffusionLinear)
+one_of_two true = tt
+one_of_two false = tt
+
+diffusion_sound : IsSound table.diffusion
+diffusion_sound reading read = one_of_two (bytes_eq (word_at reading.values 1) (codes "off"))
+
 -- The same of the whole table. A new row changes nothing here, unless a word chooses a part of its command.
 table_sound : AreSoundRows table.table
 unfolding table.table
-table_sound = assumption (three, cylinder_sound)
+table_sound = assumption (three, cylinder_sound, diffusion_sound)
 
 -- so is the form that words find
 chosen : {A : Type 0} (P : A → Type 0) (test : Bool) (a b : A) (other : Option A) → P a → (other ≡ Some b → P b) → cond test (Some a) other ≡ Some b → P b

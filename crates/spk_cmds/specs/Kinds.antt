@@ -26,8 +26,6 @@ pub data Kind : Type 0 where
   WholeUpToNext : ℕ → ℕ → Kind
   -- a decimal number, in millionths, from one to another, both ends taken
   DecimalNumber : ℤ → ℤ → Kind
-  -- a decimal number in a range, of which those above the third number aren't built yet
-  DecimalBuiltTo : ℤ → ℤ → ℤ → Kind
   -- a bound of a region: it is open, or a decimal number in a range
   BoundNumber : ℤ → ℤ → Kind
   NameWord : Kind
@@ -69,7 +67,6 @@ formed (OneOf built unbuilt) word = one_of built unbuilt word
 formed (WholeNumber low high) word = number_if (is_some (whole_of word)) word
 formed (WholeUpToNext low high) word = number_if (is_some (whole_of word)) word
 formed (DecimalNumber low high) word = number_if (is_decimal word) word
-formed (DecimalBuiltTo low high built) word = number_if (is_decimal word) word
 formed (BoundNumber low high) word = number_if (is_open word || is_decimal word) word
 formed NameWord word = name_if (is_name word) word
 formed FileWord word = name_if (is_file_name word) word
@@ -98,24 +95,17 @@ abbrev pub next_number : List (List ℕ) → ℕ
 next_number [] = 0
 next_number (word ∷ words) = unwrap_or (whole_of word) 0
 
-unfoldable pub built_to : ℤ → List ℕ → Dec → Result Value CommandFault
-built_to most word d = if int_lt most d.millionths then Err (NotBuilt word) else Ok (value.Decimal d)
-
 abbrev pub bound_in : ℤ → ℤ → List ℕ → Result Value CommandFault
 bound_in low high word = if is_open word then Ok (value.Bound Open) else (decimal_in low high word >>= λ d. Ok (value.Bound (At d)))
 
 abbrev pub decimal_value : ℤ → ℤ → List ℕ → Result Value CommandFault
 decimal_value low high word = decimal_in low high word >>= λ d. Ok (value.Decimal d)
 
-abbrev pub decimal_built_in : ℤ → ℤ → ℤ → List ℕ → Result Value CommandFault
-decimal_built_in low high built word = decimal_in low high word >>= λ d. built_to built word d
-
 -- The value of a word that has the form of its kind, where its number is in the range. The words after it stand last.
 unfoldable pub valued : Kind → List ℕ → List (List ℕ) → Result Value CommandFault
 valued (WholeNumber low high) word words = whole_in low high word
 valued (WholeUpToNext low high) word words = whole_in low (min high (next_number words)) word
 valued (DecimalNumber low high) word words = decimal_value low high word
-valued (DecimalBuiltTo low high built) word words = decimal_built_in low high built word
 valued (BoundNumber low high) word words = bound_in low high word
 valued (OneOf built unbuilt) word words = Ok (value.Word word)
 valued NameWord word words = Ok (value.Word word)

@@ -1,8 +1,10 @@
 -- The command that the values of its words make.
+pub mod App
 pub mod Region
 pub mod Set
 use Rattle.std.specs.Prelude.{false, [], ◌∷◌}
 use Rattle.spk_num.specs.declared.shape.Shape.TheVariants.{Union, Intersect}
+use Rattle.spk_cmds.specs.declared.command.AppStyle.TheVariants.{Potts, PottsNeighonly}
 use Rattle.spk_cmds.specs.declared.command.SetValue.TheVariants.{Value, Unique}
 use Rattle.spk_cmds.specs.declared.command.Command.{Command}
 use Rattle.spk_cmds.specs.declared.command.Command.TheVariants as command
@@ -10,12 +12,16 @@ use Rattle.spk_cmds.specs.declared.form.Maker.{Maker}
 use Rattle.spk_cmds.specs.declared.form.Maker.TheVariants as maker
 use Rattle.spk_cmds.specs.declared.value.Reading.{Reading}
 use Rattle.spk_cmds.specs.Values.{number_at, decimal_at, word_at, words_of}
+use Rattle.spk_cmds.specs.Makers.App.{diffusion}
 use Rattle.spk_cmds.specs.Makers.Region.{block, sphere, cylinder, region_of}
 use Rattle.spk_cmds.specs.Makers.Set.{range_of, set_to}
 
 abbrev pub made : Maker → Reading → Command
 made maker.Seed reading = command.Seed (number_at reading.values 0)
 made (maker.App style) reading = command.App style
+made maker.Potts reading = command.App (Potts (number_at reading.values 1))
+made maker.PottsNeighonly reading = command.App (PottsNeighonly (number_at reading.values 1))
+made maker.Diffusion reading = command.App (diffusion reading.values)
 made maker.Dimension reading = command.Dimension (number_at reading.values 0)
 made (maker.Lattice style) reading = command.Lattice style (decimal_at reading.values 1)
 made maker.Boundary reading = command.Boundary (false ∷ false ∷ false ∷ [])

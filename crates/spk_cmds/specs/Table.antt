@@ -6,14 +6,15 @@ use Rattle.spk_num.specs.Results.{◌>>=◌}
 use Rattle.spk_num.specs.declared.style.Style.{Style}
 use Rattle.spk_num.specs.declared.style.Style.TheVariants.{Line2, Sq4, Sq8, Tri, Sc6, Sc26, Bcc, Fcc}
 use Rattle.spk_cmds.specs.declared.options.Echo.TheVariants as echo
-use Rattle.spk_cmds.specs.declared.command.AppStyle.TheVariants.{Ising}
+use Rattle.spk_cmds.specs.declared.command.AppStyle.{AppStyle}
+use Rattle.spk_cmds.specs.declared.command.AppStyle.TheVariants.{Ising, IsingSingle}
 use Rattle.spk_cmds.specs.declared.command.SolveStyle.TheVariants.{Linear}
 use Rattle.spk_cmds.specs.declared.command.Command.{Command}
 use Rattle.spk_cmds.specs.declared.command.CommandFault.{CommandFault}
 use Rattle.spk_cmds.specs.declared.command.CommandFault.TheVariants.{UnknownCommand, UnknownStyle, WrongCount, NotBuilt}
 use Rattle.spk_cmds.specs.declared.form.Maker.{Maker}
 use Rattle.spk_cmds.specs.declared.form.Maker.TheVariants as maker
-use Rattle.spk_cmds.specs.Kinds.{Kind, OneOf, WholeNumber, WholeUpToNext, DecimalNumber, DecimalBuiltTo, BoundNumber, NameWord, AnyWord, is_among}
+use Rattle.spk_cmds.specs.Kinds.{Kind, OneOf, WholeNumber, WholeUpToNext, DecimalNumber, BoundNumber, NameWord, AnyWord, is_among}
 use Rattle.spk_cmds.specs.Forms.{Form, Keyword, Tail, NoTail, Pairs, Counted, form_read}
 use Rattle.spk_cmds.specs.Makers.{made}
 
@@ -64,6 +65,16 @@ form_found_by (Some forms) first words = form_of forms first words
 -- forms
 abbrev pub words_alone : Maker → List Kind → Form
 words_alone maker kinds = record { maker = maker; kinds = kinds; tail = NoTail }
+
+abbrev pub app : AppStyle → Form
+app style = words_alone (maker.App style) (AnyWord ∷ [])
+
+-- an application whose last word is the number of values that a site may have
+abbrev pub potts : Maker → Form
+potts maker = words_alone maker (AnyWord ∷ WholeNumber 1 1000000 ∷ [])
+
+abbrev pub diffusion : Form
+diffusion = words_alone maker.Diffusion (AnyWord ∷ OneOf (codes "off" ∷ codes "linear" ∷ []) [] ∷ OneOf (codes "hop" ∷ []) [] ∷ [])
 
 abbrev pub periodic : Kind
 periodic = OneOf (codes "p" ∷ []) (codes "n" ∷ [])
@@ -129,6 +140,15 @@ echo_styles =
     ∷ styled (codes "both") (words_alone (maker.SetEcho echo.Both) (AnyWord ∷ []))
     ∷ []
 
+abbrev pub apps : List Styled
+apps =
+    styled (codes "ising") (app Ising)
+    ∷ styled (codes "ising/single") (app IsingSingle)
+    ∷ styled (codes "potts") (potts maker.Potts)
+    ∷ styled (codes "potts/neighonly") (potts maker.PottsNeighonly)
+    ∷ styled (codes "diffusion") diffusion
+    ∷ []
+
 abbrev pub lattices : List Styled
 lattices =
     styled (codes "line/2n") (lattice Line2)
@@ -161,7 +181,7 @@ sets =
 unfoldable pub table : List Row
 table =
     one (codes "seed") (words_alone maker.Seed (WholeNumber 1 2147483646 ∷ []))
-    ∷ several (codes "app_style") 0 (styled (codes "ising") (words_alone (maker.App Ising) (AnyWord ∷ [])) ∷ []) (codes "ising/single" ∷ codes "potts" ∷ codes "potts/neighonly" ∷ codes "diffusion" ∷ [])
+    ∷ several (codes "app_style") 0 apps []
     ∷ one (codes "dimension") (words_alone maker.Dimension (WholeNumber 1 3 ∷ []))
     ∷ several (codes "lattice") 0 lattices []
     ∷ one (codes "boundary") (words_alone maker.Boundary (periodic ∷ periodic ∷ periodic ∷ []))
@@ -176,7 +196,7 @@ table =
     ∷ unbuilt (codes "sector")
     ∷ several (codes "solve_style") 0 (styled (codes "linear") (words_alone (maker.Solve Linear) (AnyWord ∷ [])) ∷ []) (codes "tree" ∷ codes "group" ∷ [])
     ∷ unbuilt (codes "sweep")
-    ∷ one (codes "temperature") (words_alone maker.Temperature (DecimalBuiltTo (pos 0) (pos 1000000000000) (pos 0) ∷ []))
+    ∷ one (codes "temperature") (words_alone maker.Temperature (DecimalNumber (pos 0) (pos 1000000000000) ∷ []))
     ∷ one (codes "stats") (words_alone maker.Stats (DecimalNumber (pos 0) (pos 1000000000000000) ∷ []))
     ∷ unbuilt (codes "diag_style")
     ∷ unbuilt (codes "dump")

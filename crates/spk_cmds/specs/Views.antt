@@ -7,7 +7,7 @@ use Rattle.spk_cmds.specs.declared.form.Keyword as code_keyword
 use Rattle.spk_cmds.specs.declared.form.Tail as code_tail
 use Rattle.spk_cmds.specs.declared.form.Tail.TheVariants as tail
 use Rattle.spk_cmds.specs.declared.form.Form as code_form
-use Rattle.spk_cmds.specs.Kinds.{Kind, OneOf, WholeNumber, WholeUpToNext, DecimalNumber, DecimalBuiltTo, BoundNumber, NameWord, FileWord, AnyWord}
+use Rattle.spk_cmds.specs.Kinds.{Kind, OneOf, WholeNumber, WholeUpToNext, DecimalNumber, BoundNumber, NameWord, FileWord, AnyWord}
 use Rattle.spk_cmds.specs.Forms.{Keyword, Tail, NoTail, Pairs, Optional, Counted, UpTo, Form}
 
 abbrev pub words_seen : List (Bor (List ℕ)) → List (List ℕ)
@@ -18,7 +18,6 @@ kind_seen (kind.OneOf built unbuilt) = OneOf (words_seen built.now) (words_seen 
 kind_seen (kind.WholeNumber low high) = WholeNumber low high
 kind_seen (kind.WholeUpToNext low high) = WholeUpToNext low high
 kind_seen (kind.DecimalNumber low high) = DecimalNumber low high
-kind_seen (kind.DecimalBuiltTo low high built) = DecimalBuiltTo low high built
 kind_seen (kind.BoundNumber low high) = BoundNumber low high
 kind_seen kind.NameWord = NameWord
 kind_seen kind.FileWord = FileWord

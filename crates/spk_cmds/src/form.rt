@@ -15,8 +15,6 @@ pub enum Kind {
     WholeUpToNext(u32, u32),
     /// A decimal number, in millionths, from one to another, both ends taken.
     DecimalNumber(i64, i64),
-    /// A decimal number in a range, of which those above the third number aren't built yet.
-    DecimalBuiltTo(i64, i64, i64),
     /// A bound of a region: `INF`, `EDGE` or a decimal number in a range.
     BoundNumber(i64, i64),
     NameWord,
@@ -51,6 +49,9 @@ pub enum Tail {
 pub enum Maker {
     Seed,
     App(AppStyle),
+    Potts,
+    PottsNeighonly,
+    Diffusion,
     Dimension,
     Lattice(Style),
     Boundary,

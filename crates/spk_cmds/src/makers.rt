@@ -1,14 +1,16 @@
 //! The command that the values of its words make.
 
+mod app;
 mod region;
 mod set;
 
 ghost use Rattle.std.specs.Prelude.{◌≡◌, IfOk};
 ghost use Rattle.spk_cmds.specs.Makers.{made};
 
-use crate::command::{Command, SetValue};
+use crate::command::{AppStyle, Command, SetValue};
 use crate::form::Maker;
 use crate::value::Reading;
+use app::diffusion;
 use region::{block, cylinder, intersect_of, region_of, sphere, union_of};
 use set::{range_of, set_to};
 use spk_num::text::Text;
@@ -23,6 +25,15 @@ pub fn made(alloc: Global, maker: Maker, reading: &Reading) -> Result<Command, A
     let command = match maker {
         Maker::Seed => Command::Seed { seed: number },
         Maker::App(style) => Command::App { style },
+        Maker::Potts => Command::App {
+            style: AppStyle::Potts(values.number(1)),
+        },
+        Maker::PottsNeighonly => Command::App {
+            style: AppStyle::PottsNeighonly(values.number(1)),
+        },
+        Maker::Diffusion => Command::App {
+            style: diffusion(values),
+        },
         Maker::Dimension => Command::Dimension { d: number },
         Maker::Lattice(style) => Command::Lattice {
             style,

@@ -3,7 +3,7 @@
 ghost use Rattle.std.specs.Prelude.{◌≡◌, ◌<◌, ◌^◌, Ok, Err};
 ghost use Rattle.spk_num.specs.Results.{IsPlainOrMemory};
 ghost use Rattle.spk_cmds.specs.Faults.{is_memory};
-ghost use Rattle.spk_cmds.specs.Kinds.{whole_in, inside_or_out, decimal_in, next_number, built_to, decimal_value, decimal_built_in, bound_in, valued};
+ghost use Rattle.spk_cmds.specs.Kinds.{whole_in, inside_or_out, decimal_in, next_number, decimal_value, bound_in, valued};
 ghost use Rattle.spk_cmds.specs.declared.command.CommandFault.TheVariants.{OutOfRange};
 ghost use Rattle.spk_cmds.specs.declared.value.Value.TheVariants.{Word};
 ghost use Rattle.spk_cmds.specs.Views.{kind_seen};
@@ -71,17 +71,6 @@ fn decimal_in(alloc: Global, low: i64, high: i64, word: &Text) -> Result<Dec, Co
     }
 }
 
-/// Refuses a number above one, since such numbers aren't built yet.
-#[tactic(auto, using(crate::proofs::Refusals::plain_or_memory), unfolding(crate::specs::Kinds::built_to))]
-fn built_to(alloc: Global, most: i64, word: &Text, number: Dec) -> Result<Value, CommandFault>
-    ensures { IsPlainOrMemory is_memory (built_to most word.now number) result }
-{
-    if number.millionths > most {
-        return Err(CommandFault::NotBuilt(Text::copy(alloc, word.as_str())?));
-    }
-    Ok(Value::Decimal(number))
-}
-
 /// The bound that a word is.
 #[tactic(auto, using(crate::proofs::Refusals::plain_or_memory))]
 fn bound_in(alloc: Global, low: i64, high: i64, word: &Text) -> Result<Value, CommandFault>
@@ -112,21 +101,6 @@ fn word_value(alloc: Global, word: &Text) -> Result<Value, CommandFault>
     Ok(Value::Word(word))
 }
 
-/// A decimal number of which those above one aren't built yet.
-#[tactic(auto, using(crate::proofs::Refusals::plain_or_memory))]
-fn decimal_built_to(
-    alloc: Global,
-    low: i64,
-    high: i64,
-    most: i64,
-    word: &Text,
-) -> Result<Value, CommandFault>
-    ensures { IsPlainOrMemory is_memory (decimal_built_in low high most word.now) result }
-{
-    let number = decimal_in(alloc, low, high, word)?;
-    built_to(alloc, most, word, number)
-}
-
 /// The value of a word that has the form of its kind, where its number is in the range. Other words stand after it.
 #[tactic(auto, using(crate::proofs::Refusals::plain_or_memory), unfolding(crate::specs::Kinds::valued))]
 pub fn value_of(
@@ -144,7 +118,6 @@ pub fn value_of(
             whole_in(alloc, low as u64, high, word)
         }
         Kind::DecimalNumber(low, high) => decimal_value(alloc, low, high, word),
-        Kind::DecimalBuiltTo(low, high, most) => decimal_built_to(alloc, low, high, most, word),
         Kind::BoundNumber(low, high) => bound_in(alloc, low, high, word),
         Kind::OneOf(_, _) | Kind::NameWord | Kind::FileWord | Kind::AnyWord => word_value(
             alloc, word,

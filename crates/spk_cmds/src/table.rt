@@ -9,6 +9,59 @@ use crate::form::{Form, Forms, Keyword, Kind, Maker, Row, Styled, Tail};
 use crate::options::Echo;
 use spk_num::style::Style;
 
+/// The words after `app_style` where the application has no others.
+const STYLE_ALONE: &[Kind] = &[Kind::AnyWord];
+
+/// The style of an application and the number of values that a site may have.
+const STYLE_AND_VALUES: &[Kind] = &[Kind::AnyWord, Kind::WholeNumber(1, 1_000_000)];
+
+const APPS: &[Styled] = &[
+    Styled {
+        word: "ising",
+        form: Form {
+            maker: Maker::App(AppStyle::Ising),
+            kinds: STYLE_ALONE,
+            tail: Tail::NoTail,
+        },
+    },
+    Styled {
+        word: "ising/single",
+        form: Form {
+            maker: Maker::App(AppStyle::IsingSingle),
+            kinds: STYLE_ALONE,
+            tail: Tail::NoTail,
+        },
+    },
+    Styled {
+        word: "potts",
+        form: Form {
+            maker: Maker::Potts,
+            kinds: STYLE_AND_VALUES,
+            tail: Tail::NoTail,
+        },
+    },
+    Styled {
+        word: "potts/neighonly",
+        form: Form {
+            maker: Maker::PottsNeighonly,
+            kinds: STYLE_AND_VALUES,
+            tail: Tail::NoTail,
+        },
+    },
+    Styled {
+        word: "diffusion",
+        form: Form {
+            maker: Maker::Diffusion,
+            kinds: &[
+                Kind::AnyWord,
+                Kind::OneOf(&["off", "linear"], &[]),
+                Kind::OneOf(&["hop"], &[]),
+            ],
+            tail: Tail::NoTail,
+        },
+    },
+];
+
 /// A word for a periodic face, or for one that isn't periodic.
 const FACE: Kind = Kind::OneOf(&["p"], &["n"]);
 
@@ -225,18 +278,7 @@ const ROWS: &[Row] = &[
     },
     Row {
         name: "app_style",
-        forms: Forms::Several(
-            0,
-            &[Styled {
-                word: "ising",
-                form: Form {
-                    maker: Maker::App(AppStyle::Ising),
-                    kinds: &[Kind::AnyWord],
-                    tail: Tail::NoTail,
-                },
-            }],
-            &["ising/single", "potts", "potts/neighonly", "diffusion"],
-        ),
+        forms: Forms::Several(0, APPS, &[]),
     },
     Row {
         name: "dimension",
@@ -325,7 +367,7 @@ const ROWS: &[Row] = &[
         name: "temperature",
         forms: Forms::One(Form {
             maker: Maker::Temperature,
-            kinds: &[Kind::DecimalBuiltTo(0, 1_000_000_000_000, 0)],
+            kinds: &[Kind::DecimalNumber(0, 1_000_000_000_000)],
             tail: Tail::NoTail,
         }),
     },

@@ -70,6 +70,7 @@ fn reading_text(alloc: Global, form: &Form, line: &str) -> Result<String, AllocE
 fn command_text(alloc: Global, command: &Command) -> Result<String, AllocError> {
     match command {
         Command::Seed { seed } => format!(in alloc; "seed {seed}"),
+        Command::App { style } => format!(in alloc; "app {style:?}"),
         Command::Lattice { style, scale } => {
             format!(in alloc; "lattice {style:?} {}", scale.millionths)
         }
@@ -81,6 +82,7 @@ fn command_text(alloc: Global, command: &Command) -> Result<String, AllocError> 
             fraction,
             region,
         } => format!(in alloc; "set {value:?} {fraction:?} {region:?}"),
+        Command::Temperature { t } => format!(in alloc; "temperature {}", t.millionths),
         Command::Print { text } => format!(in alloc; "print {}", text.as_str()),
         Command::SetEcho { echo } => format!(in alloc; "echo {echo:?}"),
         _ => String::from_str(alloc, "another command"),
@@ -152,7 +154,7 @@ const OPTIONAL: Form = Form {
     kinds: &[Kind::FileWord],
     tail: Tail::Optional(&[
         Kind::BoundNumber(-1_000_000, 1_000_000),
-        Kind::DecimalBuiltTo(0, 9_000_000, 1_000_000),
+        Kind::DecimalNumber(0, 9_000_000),
     ]),
 };
 
@@ -173,7 +175,7 @@ fn reads_other_tails(rt: HostRuntime) -> Result<(), Fail> {
         (&COUNTED, "2 a -", "BadName -"),
         (&OPTIONAL, "f", " f |"),
         (&OPTIONAL, "f INF 1", " f | open 1000000"),
-        (&OPTIONAL, "f -1 2", "NotBuilt 2"),
+        (&OPTIONAL, "f -1 2", " f | at -1000000 2000000"),
         (&OPTIONAL, "f -2 x", "BadNumber x"),
         (&OPTIONAL, "f -2 10", "OutOfRange -2"),
         (&OPTIONAL, "f 1", "WrongCount "),
@@ -216,9 +218,38 @@ fn makes_commands(rt: HostRuntime) -> Result<(), Fail> {
             "set Unique Some(Dec { millionths: 1000000 }) Some(Text { string: \"r\" })",
         ),
         ("set i1 value 1 fraction x", "BadNumber x"),
+        ("temperature 0.5", "temperature 500000"),
         ("echo both", "echo Both"),
         ("", "UnknownCommand "),
-        ("app_style potts x y", "NotBuilt potts"),
+        ("solve_style tree x", "NotBuilt tree"),
+    ] {
+        let text = outcome_text(rt.alloc(), line)?;
+        assert_eq!(rt; text.as_str(), wanted, "at {line}");
+    }
+    Ok(())
+}
+
+#[test]
+fn makes_applications(rt: HostRuntime) -> Result<(), Fail> {
+    for (line, wanted) in [
+        ("app_style ising", "app Ising"),
+        ("app_style ising/single", "app IsingSingle"),
+        ("app_style potts 1000000", "app Potts(1000000)"),
+        ("app_style potts/neighonly 1", "app PottsNeighonly(1)"),
+        ("app_style diffusion off hop", "app DiffusionOff"),
+        ("app_style diffusion linear hop", "app DiffusionLinear"),
+        ("app_style membrane", "UnknownStyle membrane"),
+        ("app_style potts", "WrongCount "),
+        ("app_style ising 3", "WrongCount "),
+        ("app_style diffusion linear", "WrongCount "),
+        (
+            "app_style diffusion nonlinear hop",
+            "UnknownStyle nonlinear",
+        ),
+        ("app_style diffusion off jump", "UnknownStyle jump"),
+        ("app_style potts 1.5", "BadNumber 1.5"),
+        ("app_style potts 0", "OutOfRange 0"),
+        ("app_style potts 1000001", "OutOfRange 1000001"),
     ] {
         let text = outcome_text(rt.alloc(), line)?;
         assert_eq!(rt; text.as_str(), wanted, "at {line}");

@@ -92,9 +92,7 @@ pub fn judge_form(alloc: Global, kind: &Kind, word: &Text) -> Result<(), Command
         Kind::WholeNumber(_, _) | Kind::WholeUpToNext(_, _) => {
             judge_number(alloc, whole_of(word).is_some(), word)
         }
-        Kind::DecimalNumber(_, _) | Kind::DecimalBuiltTo(_, _, _) => {
-            judge_number(alloc, is_decimal(word), word)
-        }
+        Kind::DecimalNumber(_, _) => judge_number(alloc, is_decimal(word), word),
         Kind::BoundNumber(_, _) => judge_number(alloc, is_open(word) || is_decimal(word), word),
         Kind::NameWord => judge_name(alloc, is_name(word.as_bytes()), word),
         Kind::FileWord => judge_name(alloc, is_file_name(word.as_bytes()), word),
