@@ -1,5 +1,5 @@
 -- A region that was added, or refused, leaves the session of its definition.
-use Rattle.std.proofs.Common.{◌≡◌, ℕ, true, false, List, Result, Ok, Err, refl, sym, ap, ◌∙◌, subst}
+use Rattle.std.proofs.Common.{◌≡◌, ℕ, false, List, Result, Ok, Err, refl, sym, ap, ◌∙◌}
 use Rattle.std.specs.Result.{IfOk, OnErr}
 use Rattle.spk_num.specs.declared.shape.Shape.{Shape}
 use Rattle.spk_num.specs.Results.{IsPlainOrMemory, result_with}

@@ -1,14 +1,12 @@
 -- The sites of an area are those of the region that its name has.
-use Rattle.std.proofs.Common.{◌≡◌, ℕ, Bool, true, false, List, Option, Some, None, ℤ, refl, sym, ap, ◌∙◌, subst}
-use Rattle.std.specs.Prelude.{length}
+use Rattle.std.proofs.Common.{◌≡◌, ℕ, Bool, true, false, List, Option, Some, None, refl, sym, ap, subst}
 use Rattle.std.specs.Option.{unwrap_or}
 use Rattle.spk_lattice.specs.Layout.{Layout}
 use Rattle.spk_lattice.specs.Neighbours.{point_of, coordinates}
-use Rattle.spk_lattice.specs.Regions.{place_of, name_at, holds}
+use Rattle.spk_lattice.specs.Regions.{name_at, holds}
 use Rattle.spk_lattice.specs.declared.regions.region.NamedShape.{NamedShape}
 use Rattle.spk_lattice.proofs.Stored.{name_found}
 use Rattle.spk_lattice.proofs.Added.{unknown_holds}
-use Rattle.spk_run.specs.declared.area.Area.{Area}
 use Rattle.spk_run.specs.declared.area.Area.TheVariants as area
 use Rattle.spk_run.specs.Areas.{IsArea}
 use Rattle.spk_run.specs.Commands.Set.{is_in}

@@ -1,36 +1,45 @@
 -- What a command does, and where it stops.
-use Rattle.std.proofs.Common.{◌≡◌, ℕ, ◌+◌, ◌<◌, ◌^◌, ◌++◌, true, false, List, [], ◌∷◌, Option, Some, None, Result, Ok, Err, refl, sym, ap, ◌∙◌, subst, inl, inr, arith}
-use Rattle.std.specs.Option.{IfSome}
+use Rattle.std.proofs.Common.{◌≡◌, ℕ, ◌+◌, ◌<◌, ◌^◌, ◌++◌, List, [], ◌∷◌, length, Option, Some, None, Result, Ok, Err, refl, sym, ap, ◌∙◌, subst, inl, inr, arith}
+use Rattle.std.specs.Option.{IfSome, option_map}
 use Rattle.std.specs.Result.{IfErr, IsErrAnd}
 use Rattle.std.proofs.lemmas.Bool.{cases_Bool}
 use Rattle.std.proofs.lemmas.Bool.Decides.{nat_tests}
 use Rattle.spk_num.specs.declared.decimal.Dec.{Dec}
 use Rattle.spk_world.specs.Outside.{Outside}
 use Rattle.spk_world.specs.States.{WorldState}
-use Rattle.spk_world.specs.Effects.{Effect, ◌>>=◌, ◌>>◌, answers, Stop, WriteFailed, Wrote}
+use Rattle.spk_world.specs.Effects.{Effect, ◌>>=◌, ◌>>◌, answers, Wrote}
 use Rattle.spk_world.specs.Effects.{OutOfMemory as WorldOutOfMemory}
 use Rattle.spk_world.proofs.EffectLaws.{is_error, wrote_then, wrote_failed, wrote_answer, wrote_nothing, wrote_whole, wrote_fault}
 use Rattle.spk_cmds.specs.declared.command.Command.{Command}
 use Rattle.spk_cmds.specs.declared.command.Command.TheVariants.{Seed, App, Dimension, Lattice, Boundary, Processors, Region, CreateBox, CreateSites, Set, ReadSites, WriteRestart, ReadRestart, Sector, Solve, Sweep, Temperature, Stats, DiagEnergy, Dump, Undump, Run, Print, SetEcho}
 use Rattle.spk_run.specs.declared.answer.Target.{Target}
 use Rattle.spk_run.specs.declared.cause.Cause.{Cause}
-use Rattle.spk_run.specs.declared.cause.Cause.TheVariants.{RunTooLong}
+use Rattle.spk_run.specs.declared.cause.Cause.TheVariants.{BadValueForApp, NoSites, RunTooLong}
 use Rattle.spk_run.specs.declared.domain.Domain.{Domain}
 use Rattle.spk_run.specs.declared.fault.Fault.{Fault}
 use Rattle.spk_run.specs.declared.fault.Fault.TheVariants as fault
 use Rattle.spk_run.specs.declared.run_settings.RunSettings.{RunSettings}
 use Rattle.spk_run.specs.declared.state.SessionState.{SessionState}
-use Rattle.spk_run.specs.Endings.{target_stop, place_of_target}
-use Rattle.spk_run.specs.declared.running.RunRoom.{RunRoom}
-use Rattle.spk_run.specs.Prepared.{HasRoom, IsPreparedFor, IsPrepared}
+use Rattle.spk_run.specs.Endings.{target_stop}
+use Rattle.spk_run.specs.declared.commands.run.Prepared.{Prepared}
+use Rattle.spk_run.specs.Prepared.{IsFor, IsPreparedFor, IsPrepared}
+use Rattle.spk_app.specs.Applications.{Application}
+use Rattle.spk_lattice.specs.Layout.{sites_of}
+use Rattle.spk_cmds.specs.declared.command.AppStyle.{AppStyle}
+use Rattle.spk_run.specs.Applications.{rules_of}
+use Rattle.std.specs.List.{All, position, position_or_len}
+use Rattle.std.proofs.lemmas.List.Elements.{All-nil, All-cons}
+use Rattle.spk_script.proofs.Cuts.{place_missing}
+use Rattle.std.specs.Prelude.{Bool, IsTrue, not}
 use Rattle.spk_run.specs.Faults.{fault_stop, done_to, NoRead, LeavesDone, WritesAfterMemory}
 use Rattle.spk_run.specs.Output.{prints, prints_all}
 use Rattle.spk_run.specs.Plans.{is_too_long}
+use Rattle.spk_run.specs.Running.{IsRunnable}
 use Rattle.spk_run.specs.Runs.{runs, run_texts, domain_after}
-use Rattle.spk_run.specs.States.{first_of, if_so, ticks_of}
+use Rattle.spk_run.specs.States.{first_of, if_so, ticks_of, are_made, has_sites}
 use Rattle.spk_run.specs.Commands.{cause, set_by, performs}
 use Rattle.spk_run.specs.Commands.NotBuilt.{unbuilt_word}
-use Rattle.spk_run.specs.Commands.Run.{settings_of, bad_value, domain_cause, domain_causes, run_causes, run_cause, with_domain, runs_by, runs_domain_by, performs_run}
+use Rattle.spk_run.specs.Commands.Run.{application_on, settings_of, bad_value, domain_cause, domain_causes, run_causes, run_cause, with_domain, runs_by, runs_domain, runs_domain_by, performs_run}
 
 pub fault_stop-memory : fault_stop fault.Memory ≡ WorldOutOfMemory
 unfolding fault_stop
@@ -81,76 +90,82 @@ pub print_left : (told : Option Outside) (state : SessionState) (text : List ℕ
 print_left = print_left_by
 
 -- there is nothing to run without a box
-pub nothing_runs : {world : WorldState} (state : SessionState) (settings : RunSettings) (domain : Option Domain) → state.domain ≡ None → domain ≡ None →
-    Wrote fault_stop world world (runs_domain_by state settings state.domain) (Ok (Ok (record state { domain = domain })))
-nothing_runs {world = world} state settings domain none after =
-    subst (λ (d : Option Domain). Wrote fault_stop world world (runs_domain_by state settings state.domain) (Ok (Ok (record state { domain = d })))) (none ∙ sym after) (rw none wrote_answer)
+pub nothing_runs : {world : WorldState} (state : SessionState) (application : Application) (settings : RunSettings) (domain : Option Domain) → state.domain ≡ None → domain ≡ None →
+    Wrote fault_stop world world (runs_domain_by state application settings state.domain) (Ok (Ok (record state { domain = domain })))
+nothing_runs {world = world} state application settings domain none after =
+    subst (λ (d : Option Domain). Wrote fault_stop world world (runs_domain_by state application settings state.domain) (Ok (Ok (record state { domain = d })))) (none ∙ sym after) (rw none wrote_answer)
 
 -- a run was done to its end, or stopped
-pub runs_whole : (before now : WorldState) (state : SessionState) (settings : RunSettings) (domain after : Domain) (log : Option (List ℕ)) → state.domain ≡ Some domain → log ≡ state.log →
-    after ≡ domain_after settings domain → Wrote target_stop before now (prints_all log (run_texts settings domain)) (Ok tt) →
-    Wrote fault_stop before now (runs_domain_by state settings state.domain) (Ok (Ok (with_domain state after)))
-runs_whole before now state settings domain after log is same box done =
-    let whole : Wrote target_stop before now (runs state.log settings domain) (Ok (domain_after settings domain)) = wrote_then _ (rw same at done) wrote_answer in
+pub runs_whole : (before now : WorldState) (state : SessionState) (application : Application) (settings : RunSettings) (domain after : Domain) (log : Option (List ℕ)) → state.domain ≡ Some domain → log ≡ state.log →
+    after ≡ domain_after application settings domain → Wrote target_stop before now (prints_all log (run_texts application settings domain)) (Ok tt) →
+    Wrote fault_stop before now (runs_domain_by state application settings state.domain) (Ok (Ok (with_domain state after)))
+runs_whole before now state application settings domain after log is same box done =
+    let whole : Wrote target_stop before now (runs state.log application settings domain) (Ok (domain_after application settings domain)) = wrote_then _ (rw same at done) wrote_answer in
     rw (is, box) (wrote_then _ (wrote_whole whole) wrote_answer)
 
-pub runs_no_further : (before now : WorldState) (state after : SessionState) (settings : RunSettings) (domain : Domain) (log : Option (List ℕ)) (target : Target) (result : Result (Unit {0}) Fault) →
+pub runs_no_further : (before now : WorldState) (state after : SessionState) (application : Application) (settings : RunSettings) (domain : Domain) (log : Option (List ℕ)) (target : Target) (result : Result (Unit {0}) Fault) →
     IsErrAnd result (λ y. y ≡ fault.Write target) → state.domain ≡ Some domain → log ≡ state.log →
-    Wrote target_stop before now (prints_all log (run_texts settings domain)) (Err target) →
-    Wrote fault_stop before now (runs_domain_by state settings state.domain) (done_to after result)
-runs_no_further before now state after settings domain log target result failed is same prefix =
-    let part : Wrote target_stop before now (runs state.log settings domain) (Err target) = wrote_failed {result = Err target} _ refl (rw same at prefix) in
-    let stopped : Wrote fault_stop before now (runs state.log settings domain) (Err (fault.Write target)) = wrote_fault target (fault_stop-write target) part in
+    Wrote target_stop before now (prints_all log (run_texts application settings domain)) (Err target) →
+    Wrote fault_stop before now (runs_domain_by state application settings state.domain) (done_to after result)
+runs_no_further before now state after application settings domain log target result failed is same prefix =
+    let part : Wrote target_stop before now (runs state.log application settings domain) (Err target) = wrote_failed {result = Err target} _ refl (rw same at prefix) in
+    let stopped : Wrote fault_stop before now (runs state.log application settings domain) (Err (fault.Write target)) = wrote_fault target (fault_stop-write target) part in
     rw (is, is_error result _ failed) (wrote_failed {result = Err (fault.Write target)} _ refl stopped)
 
 -- after a write that failed the session is the one after the whole run
-runs_answer : (state : SessionState) (settings : RunSettings) (domain : Domain) (outside : Outside) → (runs_by state settings domain outside).answer ≡ Ok (with_domain state (domain_after settings domain))
-runs_answer state settings domain outside =
-    then_answer (runs state.log settings domain) (λ after. Ok (with_domain state after)) outside
-    ∙ ap (λ (d : Domain). let made : Result SessionState Cause = Ok (with_domain state d) in made) (then_answer (prints_all state.log (run_texts settings domain)) (λ _. domain_after settings domain) outside)
+runs_answer : (state : SessionState) (application : Application) (settings : RunSettings) (domain : Domain) (outside : Outside) →
+    (runs_by state application settings domain outside).answer ≡ Ok (with_domain state (domain_after application settings domain))
+runs_answer state application settings domain outside =
+    then_answer (runs state.log application settings domain) (λ after. Ok (with_domain state after)) outside
+    ∙ ap (λ (d : Domain). let made : Result SessionState Cause = Ok (with_domain state d) in made) (then_answer (prints_all state.log (run_texts application settings domain)) (λ _. domain_after application settings domain) outside)
 
-run_session_by : (told : Option Outside) (state : SessionState) (settings : RunSettings) (domain after : Domain) (target : Target) → after ≡ domain_after settings domain →
-    LeavesDone {A = Unit {0}} told (runs_by state settings domain) state (with_domain state after) (Err (fault.Write target))
-run_session_by None state settings domain after target box = tt
-run_session_by (Some outside) state settings domain after target box = runs_answer state settings domain outside ∙ rw box refl
+run_session_by : (told : Option Outside) (state : SessionState) (application : Application) (settings : RunSettings) (domain after : Domain) (target : Target) → after ≡ domain_after application settings domain →
+    LeavesDone {A = Unit {0}} told (runs_by state application settings domain) state (with_domain state after) (Err (fault.Write target))
+run_session_by None state application settings domain after target box = tt
+run_session_by (Some outside) state application settings domain after target box = runs_answer state application settings domain outside ∙ rw box refl
 
-pub run_session : (told : Option Outside) (state : SessionState) (settings : RunSettings) (domain after : Domain) (target : Target) (result : Result (Unit {0}) Fault) →
-    IsErrAnd result (λ y. y ≡ fault.Write target) → state.domain ≡ Some domain → after ≡ domain_after settings domain →
-    LeavesDone told (runs_domain_by state settings state.domain) state (with_domain state after) result
-run_session told state settings domain after target result failed is box =
-    subst (λ (d : Option Domain). LeavesDone told (runs_domain_by state settings d) state (with_domain state after) result) (sym is)
-    (subst (λ (r : Result (Unit {0}) Fault). LeavesDone told (runs_by state settings domain) state (with_domain state after) r) (sym (is_error result _ failed))
-    (run_session_by told state settings domain after target box))
+pub run_session : (told : Option Outside) (state : SessionState) (application : Application) (settings : RunSettings) (domain after : Domain) (target : Target) (result : Result (Unit {0}) Fault) →
+    IsErrAnd result (λ y. y ≡ fault.Write target) → state.domain ≡ Some domain → after ≡ domain_after application settings domain →
+    LeavesDone told (runs_domain_by state application settings state.domain) state (with_domain state after) result
+run_session told state application settings domain after target result failed is box =
+    subst (λ (d : Option Domain). LeavesDone told (runs_domain_by state application settings d) state (with_domain state after) result) (sym is)
+    (subst (λ (r : Result (Unit {0}) Fault). LeavesDone told (runs_by state application settings domain) state (with_domain state after) r) (sym (is_error result _ failed))
+    (run_session_by told state application settings domain after target box))
 
 -- a failed write alone is a fault after which something may be written
 pub write_after_memory : (before now : Option Outside) (target : Target) (result : Result (Unit {0}) Fault) → IsErrAnd result (λ y. y ≡ fault.Write target) → WritesAfterMemory before now result
 write_after_memory before now target result failed = rw (is_error result _ failed) tt
 
--- what was made for a run, if there is a box
-prepared_by : (state : SessionState) (run : ℕ) (domain : Option Domain) (settings : RunSettings) (room : RunRoom) → IsPreparedFor state run domain (Some (settings, room)) →
-    (found : Domain) × (domain ≡ Some found) × HasRoom state run found settings room
-prepared_by state run None settings room prepared = absurd (cc prepared)
-prepared_by state run (Some domain) settings room prepared = (domain, refl, prepared)
+-- what was prepared is for an application and a box
+prepared_by : (state : SessionState) (run : ℕ) (style : Option AppStyle) (domain : Option Domain) (prepared : Prepared) → IsPreparedFor state run style domain (Some prepared) →
+    (asked : AppStyle) × (found : Domain) × (style ≡ Some asked) × (domain ≡ Some found) × IsFor state run asked found prepared
+prepared_by state run (Some asked) (Some found) prepared is = (asked, found, refl, refl, is)
+prepared_by state run (Some asked) None prepared is = absurd (cc is)
+prepared_by state run None (Some found) prepared is = absurd (cc is)
+prepared_by state run None None prepared is = absurd (cc is)
 
-pub prepared_box : (state : SessionState) (run : ℕ) (settings : RunSettings) (room : RunRoom) → IsPrepared state run (Some (settings, room)) →
-    (found : Domain) × (state.domain ≡ Some found) × HasRoom state run found settings room
-prepared_box state run settings room prepared = prepared_by state run state.domain settings room prepared
+pub prepared_for : (state : SessionState) (run : ℕ) (prepared : Prepared) → IsPrepared state run (Some prepared) →
+    (asked : AppStyle) × (found : Domain) × (state.app ≡ Some asked) × (state.domain ≡ Some found) × IsFor state run asked found prepared
+prepared_for state run prepared is = prepared_by state run state.app state.domain prepared is
 
-no_box_by : (state : SessionState) (run : ℕ) (domain : Option Domain) → IsPreparedFor state run domain None → domain ≡ None
-no_box_by state run None prepared = refl
-no_box_by state run (Some domain) prepared = absurd prepared
+-- else nothing is run
+nothing_by : (state : SessionState) (run : ℕ) (style : Option AppStyle) (domain : Option Domain) → IsPreparedFor state run style domain None → runs_domain state run style domain ≡ answers (Ok state)
+nothing_by state run (Some asked) (Some found) is = absurd is
+nothing_by state run (Some asked) None is = refl
+nothing_by state run None (Some found) is = refl
+nothing_by state run None None is = refl
 
-pub no_box : (state : SessionState) (run : ℕ) → IsPrepared state run None → state.domain ≡ None
-no_box state run prepared = no_box_by state run state.domain prepared
+pub runs_nothing : {world : WorldState} (state : SessionState) (run : ℕ) → IsPrepared state run None → Wrote fault_stop world world (performs_run state run) (Ok (Ok state))
+runs_nothing {world = world} state run is = rw (nothing_by state run state.app state.domain is) wrote_answer
 
--- without a box nothing is run
-pub runs_nothing : {world : WorldState} (state : SessionState) (run : ℕ) → state.domain ≡ None → Wrote fault_stop world world (performs_run state run) (Ok (Ok state))
-runs_nothing {world = world} state run none = rw none wrote_answer
-
--- a run with the settings of its session
-pub runs_with : (state : SessionState) (run : ℕ) (settings : RunSettings) (domain : Domain) → state.domain ≡ Some domain → settings ≡ settings_of state run domain →
-    runs_domain_by state settings state.domain ≡ performs_run state run
-runs_with state run settings domain is same = rw is (ap (λ (s : RunSettings). runs_by state s domain) same)
+-- a run with the application and the settings of its session
+pub runs_with : (state : SessionState) (run : ℕ) (asked : AppStyle) (found : Domain) (prepared : Prepared) → state.app ≡ Some asked → state.domain ≡ Some found → IsFor state run asked found prepared →
+    runs_domain_by state (rules_of prepared.application) prepared.plan state.domain ≡ performs_run state run
+runs_with state run asked found prepared style box for_run =
+    ap (λ (d : Option Domain). runs_domain_by state (rules_of prepared.application) prepared.plan d) box
+    ∙ ap (λ (a : Application). runs_by state a prepared.plan found) for_run.application
+    ∙ ap (λ (s : RunSettings). runs_by state (application_on state asked found) s found) for_run.plan
+    ∙ sym (ap (λ (a : Option AppStyle). runs_domain state run a state.domain) style ∙ ap (λ (d : Option Domain). runs_domain state run (Some asked) d) box)
 
 -- a run that isn't refused ends in time
 abbrev NoneHolds : List (Option Cause) → Type 0
@@ -169,14 +184,65 @@ not_too_long settings none =
       | inr short ↦ grind (arith, nat_tests)
     ]
 
-fits_by : (state : SessionState) (run : ℕ) (domain : Domain) → domain_cause state run domain ≡ None → domain.time + run < 2 ^ 64
-fits_by state run domain none =
-    not_too_long (settings_of state run domain) (none_holds (bad_value domain.values ∷ if_so (is_too_long (settings_of state run domain)) RunTooLong ∷ []) none).1.0
+mapped_none : (found : Option ℕ) → option_map (λ place. BadValueForApp (place + 1)) found ≡ None → found ≡ None
+mapped_none None is = refl
+mapped_none (Some place) is = absurd (cc is)
 
-pub run_fits : (state : SessionState) (run : ℕ) (domain : Domain) → state.domain ≡ Some domain → run_cause state run ≡ None → domain.time + run < 2 ^ 64
-run_fits state run domain is none =
-    let last : domain_causes state run state.domain ≡ None = (none_holds (run_causes state run) none).1.1.1.1.1.0 in
-    fits_by state run domain (rw is at last)
+-- where no element fails a test, all pass it
+found_none : (values : List ℕ) (test : ℕ → Bool) → position_or_len (λ v. not (test v)) values ≡ length values → All (λ v. IsTrue (test v)) values
+found_none [] test none = All-nil (λ v. IsTrue (test v))
+found_none (v ∷ values) test none =
+    elim (cases_Bool (test v)) [
+      | inl valid ↦
+          let more : position_or_len (λ v. not (test v)) values ≡ length values = (let first : position_or_len (λ v. not (test v)) (v ∷ values) ≡ 1 + position_or_len (λ v. not (test v)) values = rw valid refl in omega (arith, first, none)) in
+          All-cons (λ v. IsTrue (test v)) v values valid (found_none values test more)
+      | inr bad ↦ let first : position_or_len (λ v. not (test v)) (v ∷ values) ≡ 0 = rw bad refl in absurd (omega (arith, first, none))
+    ]
+
+-- no site has a value that isn't allowed
+all_valid : (application : Application) (values : List ℕ) → bad_value application values ≡ None → All (λ v. IsTrue (application.is_valid v)) values
+all_valid application values none =
+    found_none values application.is_valid (place_missing (λ v. not (application.is_valid v)) values (mapped_none (position (λ v. not (application.is_valid v)) values) none))
+
+-- what a run that isn't refused may rest on
+pub record IsFree (application : Application) (run : ℕ) (domain : Domain) : Type 0 where
+  pub fits : length domain.values ≡ sites_of domain.lattice
+  pub valid : All (λ v. IsTrue (application.is_valid v)) domain.values
+  pub ends : domain.time + run < 2 ^ 64
+
+made_by : (domain : Domain) → if_so (not (are_made (Some domain))) NoSites ≡ None → length domain.values ≡ sites_of domain.lattice
+made_by domain none =
+    elim (cases_Bool (has_sites domain)) [
+      | inl made ↦ grind (arith, nat_tests)
+      | inr missing ↦ let some : if_so (not (are_made (Some domain))) NoSites ≡ Some NoSites = rw missing refl in absurd (cc (some, none))
+    ]
+
+pub run_free_of : (state : SessionState) (run : ℕ) (asked : AppStyle) (found : Domain) → state.app ≡ Some asked → state.domain ≡ Some found → run_cause state run ≡ None →
+    IsFree (application_on state asked found) run found
+run_free_of state run asked found style box none =
+    let causes = none_holds (run_causes state run) none in
+    let application : Application = application_on state asked found in
+    let last : domain_causes state run state.app state.domain ≡ None = causes.1.1.1.1.1.0 in
+    let here : domain_cause state run (application_on state asked found) found ≡ None = rw (style, box) at last in
+    let both = none_holds (bad_value (application_on state asked found) found.values ∷ if_so (is_too_long (settings_of state run (application_on state asked found) found)) RunTooLong ∷ []) here in
+    let made : if_so (not (are_made state.domain)) NoSites ≡ None = causes.1.1.1.0 in
+    record {
+      fits = made_by found (rw box at made);
+      valid = all_valid (application_on state asked found) found.values both.0;
+      ends = not_too_long (settings_of state run (application_on state asked found) found) both.1.0;
+    }
+
+-- what was prepared can run
+runnable_by : (state : SessionState) (asked : AppStyle) (found : Domain) (prepared : Prepared) (run : ℕ) → IsFor state run asked found prepared → IsFree (application_on state asked found) run found →
+    IsRunnable (rules_of prepared.application) found prepared.room
+runnable_by state asked found prepared run for_run free =
+    rw for_run.application (record { fits = free.fits; valid = free.valid; room_for = for_run.room_for })
+
+pub runnable_for : (state : SessionState) (run : ℕ) (prepared : Prepared) → IsPrepared state run (Some prepared) → run_cause state run ≡ None →
+    IfSome state.domain (λ domain. IsRunnable (rules_of prepared.application) domain prepared.room)
+runnable_for state run prepared is none =
+    let made = prepared_for state run prepared is in
+    rw made.3 (runnable_by state made.0 made.1 prepared run made.4 (run_free_of state run made.0 made.1 made.2 made.3 none))
 
 -- commands that neither run nor print
 performs_other : (state : SessionState) (command : Command) → ((length : Dec) → command ≡ Run length → ⊥) → ((text : List ℕ) → command ≡ Print text → ⊥) →

@@ -1,5 +1,5 @@
 -- Values that `set` gives, one site after another.
-use Rattle.std.proofs.Common.{◌≡◌, ℕ, ◌+◌, ◌<◌, ◌≤◌, Bool, true, false, List, [], ◌∷◌, ◌++◌, length, take, drop, get_or, set, Option, refl, sym, ◌∙◌, arith, append_assoc, append-nil}
+use Rattle.std.proofs.Common.{◌≡◌, ℕ, ◌+◌, ◌<◌, ◌≤◌, Bool, true, false, List, [], ◌∷◌, ◌++◌, length, take, drop, get_or, set, Option, refl, arith, append_assoc, append-nil}
 use Rattle.std.proofs.lemmas.List.{take_all, take_more, take_more_set, drop_all, drop_more, drop-set-lt}
 use Rattle.spk_num.specs.declared.decimal.Dec.{Dec}
 use Rattle.spk_cmds.specs.declared.command.SetValue.{SetValue}

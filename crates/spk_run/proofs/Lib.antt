@@ -13,5 +13,3 @@ pub mod Sessions
 pub mod StatisticsTexts
 pub mod StreamLaws
 pub mod Tellers
-pub mod Turns
-pub mod Weights

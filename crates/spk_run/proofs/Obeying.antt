@@ -29,7 +29,7 @@ use Rattle.spk_world.specs.Outside.{Outside}
 use Rattle.spk_world.specs.States.{Faults, WorldState}
 use Rattle.spk_world.specs.Causes.{Rose, Later, LoadCause}
 use Rattle.spk_world.specs.declared.world.LoadFault.{LoadFault}
-use Rattle.spk_world.specs.Effects.{Effect, ◌>>=◌, answers, Stop, OutOfMemory, Stands, Wrote}
+use Rattle.spk_world.specs.Effects.{Effect, ◌>>=◌, answers, Stop, Stands, Wrote}
 use Rattle.spk_world.proofs.EffectLaws.{wrote_then, wrote_failed, wrote_answer, wrote_nothing, wrote_mapped, rose_later, later_later, later_same}
 use Rattle.spk_world.proofs.LoadLaws.{load_later}
 use Rattle.spk_run.specs.declared.cause.Cause.{Cause}

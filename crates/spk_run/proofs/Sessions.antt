@@ -1,11 +1,11 @@
 -- What a session comes to with a command, and what its own lines are.
-use Rattle.std.proofs.Common.{◌≡◌, ℕ, List, Option, Some, None, Result, Ok, Err, refl, sym, ap, ◌∙◌, subst}
+use Rattle.std.proofs.Common.{◌≡◌, ℕ, List, Option, Some, None, Result, Ok, Err, refl, sym}
 use Rattle.std.specs.Option.{IfNone}
-use Rattle.std.specs.Result.{IfErr, IsErrAnd}
-use Rattle.spk_world.specs.Outside.{Outside, Screen, File}
-use Rattle.spk_world.specs.Causes.{Rose, Later}
+use Rattle.std.specs.Result.{IsErrAnd}
+use Rattle.spk_world.specs.Outside.{Outside}
+use Rattle.spk_world.specs.Causes.{Rose}
 use Rattle.spk_world.specs.States.{Faults, WorldState}
-use Rattle.spk_world.specs.Effects.{Effect, ◌>>=◌, ◌>>◌, answers, Stop, WriteFailed, Stands, StopCause, Wrote}
+use Rattle.spk_world.specs.Effects.{Effect, ◌>>◌, answers, WriteFailed, Stands, StopCause, Wrote}
 use Rattle.spk_world.proofs.EffectLaws.{is_error, wrote_then, wrote_failed, wrote_answer, wrote_nothing, wrote_whole, wrote_fault}
 use Rattle.spk_cmds.specs.declared.command.Command.{Command}
 use Rattle.spk_run.specs.declared.answer.Target.{Target}

@@ -1,5 +1,5 @@
 -- One text more for a teller.
-use Rattle.std.proofs.Common.{◌≡◌, ℕ, List, Option, Result, Ok, Err, true, false, refl, rules}
+use Rattle.std.proofs.Common.{◌≡◌, ℕ, List, Option, Result, Ok, Err, true, false, refl}
 use Rattle.std.specs.Prelude.{is_err, OnOk}
 use Rattle.spk_world.specs.States.{WorldState}
 use Rattle.spk_world.specs.Effects.{Effect, ◌>>◌, Wrote}

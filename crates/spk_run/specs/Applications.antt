@@ -1,19 +1,26 @@
--- Applications: what may happen at a site, what that changes, and how readily it happens.
-use Rattle.std.specs.Prelude.{ℕ, Bool, List}
+-- The application of a session: its style, on a lattice and at a temperature.
+use Rattle.std.specs.Prelude.{ℕ, true, false}
+use Rattle.spk_num.specs.declared.style.Style.{Style}
+use Rattle.spk_app.specs.Applications.{Application}
+use Rattle.spk_potts.specs.Ising.{ising}
+use Rattle.spk_potts.specs.Potts.{potts}
+use Rattle.spk_diffusion.specs.Diffusion.{diffusion}
+use Rattle.spk_cmds.specs.declared.command.AppStyle.{AppStyle}
+use Rattle.spk_cmds.specs.declared.command.AppStyle.TheVariants as style
+use Rattle.spk_run.specs.declared.application.AnyApplication.{AnyApplication}
+use Rattle.spk_run.specs.declared.application.AnyApplication.TheVariants as any
 
--- an event of a site: the mark by which the application knows it, and its weight in units of 2^-30
-pub record Event : Type 0 where
-  pub mark : ℕ
-  pub weight : ℕ
+-- the rules of a style, on a lattice of some style at a temperature in millionths
+abbrev pub application_of : AppStyle → Style → ℕ → Application
+application_of style.Ising lattice temperature = ising (record { single = false; style = lattice; temperature = temperature })
+application_of style.IsingSingle lattice temperature = ising (record { single = true; style = lattice; temperature = temperature })
+application_of (style.Potts q) lattice temperature = potts (record { q = q; neighonly = false; style = lattice; temperature = temperature })
+application_of (style.PottsNeighonly q) lattice temperature = potts (record { q = q; neighonly = true; style = lattice; temperature = temperature })
+application_of style.DiffusionOff lattice temperature = diffusion (record { linear = false; style = lattice; temperature = temperature })
+application_of style.DiffusionLinear lattice temperature = diffusion (record { linear = true; style = lattice; temperature = temperature })
 
--- The rules of an application. Sites are named by their places, counted from 0. Each rule is given the places of every
--- site's neighbours, the values of all sites, and a place.
-pub record Application : Type 0 where
-  -- the events of a site
-  pub events : (ℕ → List ℕ) → List ℕ → ℕ → List Event
-  -- the values after the event of a site that has this mark
-  pub applied : (ℕ → List ℕ) → List ℕ → ℕ → ℕ → List ℕ
-  pub energy : (ℕ → List ℕ) → List ℕ → ℕ → ℕ
-  pub is_valid : ℕ → Bool
-  -- the most that the weights of a site's events add up to
-  pub largest : ℕ
+-- the rules that an application follows
+abbrev pub rules_of : AnyApplication → Application
+rules_of (any.Ising settings) = ising settings
+rules_of (any.Potts settings) = potts settings
+rules_of (any.Diffusion settings) = diffusion settings

@@ -1,6 +1,6 @@
 -- The commands of the session: for which causes each is refused, and what it does. They are made after SPPARKS's commands; the
 -- causes and their order are our own.
-use Rattle.std.specs.Prelude.{ℕ, List, [], ◌∷◌, Option, Some, None, option_map, Result, Ok, Err}
+use Rattle.std.specs.Prelude.{ℕ, List, [], ◌∷◌, Option, Some, None, option_map, unsigned_abs, Result, Ok, Err}
 use Rattle.spk_cmds.specs.declared.command.Command.{Command}
 use Rattle.spk_cmds.specs.declared.command.Command.TheVariants as command
 use Rattle.spk_world.specs.Effects.{Effect, answers}
@@ -57,6 +57,7 @@ set_by state (command.CreateBox region) = with_box state state.seed (box_of stat
 set_by state command.CreateSites = with_sites state
 set_by state (command.Set value fraction region) = with_set state value fraction region
 set_by state (command.Solve style) = record state { solver = Some style }
+set_by state (command.Temperature t) = record state { temperature = unsigned_abs t.millionths }
 set_by state (command.Stats delta) = record state { stats = ticks_of delta }
 set_by state (command.SetEcho style) = record state { echo = style }
 set_by state other = state

@@ -1,5 +1,5 @@
 -- Why a call inside gave up, and what a command has come to.
-use Rattle.std.specs.Prelude.{◌≡◌, ℕ, List, Option, Some, None, Result, Ok, Err}
+use Rattle.std.specs.Prelude.{◌≡◌, Option, Some, None, Result, Ok, Err}
 use Rattle.spk_world.specs.Outside.{Outside}
 use Rattle.spk_world.specs.Effects.{Effect, Stop, LoadFailed, WriteFailed}
 use Rattle.spk_world.specs.Effects.{OutOfMemory as WorldOutOfMemory}
@@ -8,7 +8,6 @@ use Rattle.spk_run.specs.declared.fault.Fault.TheVariants as fault
 use Rattle.spk_run.specs.declared.fault.Trouble.{Trouble}
 use Rattle.spk_run.specs.declared.fault.Trouble.TheVariants as trouble
 use Rattle.spk_run.specs.declared.cause.Cause.{Cause}
-use Rattle.spk_run.specs.declared.answer.Target.{Target}
 use Rattle.spk_run.specs.declared.answer.Ending.{Ending}
 use Rattle.spk_run.specs.declared.answer.Answer.{Answer}
 use Rattle.spk_run.specs.declared.answer.Answer.TheVariants.{ReadFault, WriteFault, OutOfMemory}

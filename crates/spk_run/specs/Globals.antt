@@ -1,11 +1,10 @@
 -- The state of all ranks after a number of steps. Ranks take their turns one after another on the same values, after the report
 -- SAND2009-6226 on sectors; the streams are our own rule.
 use Rattle.std.specs.Prelude.{ℕ, zero, suc, ◌+◌, ◌*◌, List, replicate, slice_index, slice_set, slice_get, sum_by, unwrap_or}
-use Rattle.spk_run.specs.declared.counts.Counts.{Counts}
-use Rattle.spk_run.specs.declared.rank_state.RankState.{RankState}
 use Rattle.spk_run.specs.declared.run_settings.RunSettings.{RunSettings}
 use Rattle.spk_run.specs.Plans.{sector_at, window}
-use Rattle.spk_run.specs.Turns.{Sector, turn_of, no_counts}
+use Rattle.spk_turn.specs.declared.counts.Counts.{Counts}
+use Rattle.spk_turn.specs.Turns.{Sector, RankState, turn_of, no_counts}
 
 -- the values of all sites, the streams by rank and then by sector, and for each rank the events since the run's start
 pub record GlobalState : Type 0 where

@@ -6,11 +6,11 @@ pub mod Drawing
 pub mod Endings
 pub mod Faults
 pub mod Globals
-pub mod Ising
 pub mod Output
 pub mod Plain
 pub mod Plans
 pub mod Prepared
+pub mod Ranks
 pub mod Running
 pub mod Runs
 pub mod Scripts
@@ -18,4 +18,3 @@ pub mod States
 pub mod Statistics
 pub mod Streams
 pub mod Telling
-pub mod Turns

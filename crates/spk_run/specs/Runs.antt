@@ -1,12 +1,13 @@
--- A run of the sites of a box: the texts that it writes at its marks, and the box after it.
+-- A run of an application on the sites of a box: the texts that it writes at its marks, and the box after it.
 use Rattle.std.specs.Prelude.{ℕ, ◌+◌, ◌*◌, ◌^◌, List, ◌∷◌, map, Option}
 use Rattle.spk_lattice.specs.Layout.{dimensions_of}
 use Rattle.spk_world.specs.Effects.{Effect, ◌>>◌, answers}
 use Rattle.spk_run.specs.declared.domain.Domain.{Domain}
 use Rattle.spk_run.specs.declared.run_settings.RunSettings.{RunSettings}
 use Rattle.spk_run.specs.declared.statistics.StatsLine.{StatsLine}
-use Rattle.spk_run.specs.Ising.{whole_lattice}
-use Rattle.spk_run.specs.Turns.{counts_sum}
+use Rattle.spk_app.specs.Applications.{Application}
+use Rattle.spk_turn.specs.Turns.{counts_sum}
+use Rattle.spk_run.specs.Ranks.{whole_lattice}
 use Rattle.spk_run.specs.Plans.{elapsed, marks, steps}
 use Rattle.spk_run.specs.Globals.{GlobalState, Job, global_state, all_counts}
 use Rattle.spk_run.specs.Statistics.{header_text, statistics_text}
@@ -17,9 +18,9 @@ abbrev pub sectors_of : Domain → ℕ
 sectors_of domain = 2 ^ dimensions_of domain.lattice.style
 
 -- a run on one rank
-abbrev pub job : RunSettings → Domain → Job
-job settings domain = record {
-  sector = λ rank sector. whole_lattice domain.lattice;
+abbrev pub job : Application → RunSettings → Domain → Job
+job application settings domain = record {
+  sector = λ rank sector. whole_lattice application domain.lattice;
   ranks = 1;
   streams_each = sectors_of domain;
   settings = settings;
@@ -37,22 +38,22 @@ domain_with domain ticks state = record domain {
 }
 
 -- the box after so many cycles
-unfoldable pub domain_at : RunSettings → Domain → ℕ → Domain
-domain_at settings domain done = domain_with domain (elapsed settings done) (global_state (job settings domain) (done * settings.sectors))
+unfoldable pub domain_at : Application → RunSettings → Domain → ℕ → Domain
+domain_at application settings domain done = domain_with domain (elapsed settings done) (global_state (job application settings domain) (done * settings.sectors))
 
-abbrev pub domain_after : RunSettings → Domain → Domain
-domain_after settings domain = domain_with domain settings.length (global_state (job settings domain) (steps settings))
+abbrev pub domain_after : Application → RunSettings → Domain → Domain
+domain_after application settings domain = domain_with domain settings.length (global_state (job application settings domain) (steps settings))
 
 -- the line of statistics of a box
 abbrev pub line_of : Domain → StatsLine
 line_of domain = record { time = domain.time; counts = domain.counts; sweeps = domain.sweeps }
 
-abbrev pub mark_text : RunSettings → Domain → ℕ → List ℕ
-mark_text settings domain done = statistics_text (line_of (domain_at settings domain done))
+abbrev pub mark_text : Application → RunSettings → Domain → ℕ → List ℕ
+mark_text application settings domain done = statistics_text (line_of (domain_at application settings domain done))
 
 -- a header, and then a line at each mark
-abbrev pub run_texts : RunSettings → Domain → List (List ℕ)
-run_texts settings domain = header_text ∷ map (mark_text settings domain) (marks settings)
+abbrev pub run_texts : Application → RunSettings → Domain → List (List ℕ)
+run_texts application settings domain = header_text ∷ map (mark_text application settings domain) (marks settings)
 
-abbrev pub runs : Option (List ℕ) → RunSettings → Domain → Effect Domain
-runs log settings domain = prints_all log (run_texts settings domain) >> answers (domain_after settings domain)
+abbrev pub runs : Option (List ℕ) → Application → RunSettings → Domain → Effect Domain
+runs log application settings domain = prints_all log (run_texts application settings domain) >> answers (domain_after application settings domain)

@@ -1,9 +1,9 @@
 //! The box of a session.
 
-use crate::counts::Counts;
 use crate::streams::Streams;
 use crate::values::Values;
 use spk_lattice::Lattice;
+use spk_turn::Counts;
 
 /// The box, with its lattice and its sites, which have no values before they are made.
 #[derive(Debug, Drop)]

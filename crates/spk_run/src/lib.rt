@@ -2,17 +2,16 @@
 #![tactic(auto)]
 
 mod answer;
+mod application;
 mod area;
 mod cause;
 mod commands;
-mod counts;
 mod domain;
 mod fault;
 mod messages;
 mod output;
 mod plan;
-mod propensities;
-mod rank_state;
+mod rank;
 mod run;
 mod run_settings;
 mod running;
@@ -26,7 +25,6 @@ mod streams;
 mod teller;
 #[cfg(test)]
 mod tests;
-mod turn;
 mod values;
 
 pub use answer::{Answer, Target, status};

@@ -4,28 +4,30 @@ ghost use Rattle.std.specs.Prelude.{◌≡◌, ◌+◌, ◌-◌, ◌*◌, ◌^�
 ghost use Rattle.spk_lattice.specs.Layout.{sites_of};
 ghost use Rattle.spk_world.specs.Effects.{Effect};
 ghost use Rattle.spk_world.specs.States.{WorldState};
+ghost use Rattle.spk_app.specs.Applications.{Application};
 ghost use Rattle.spk_run.specs.declared.domain.Domain.{Domain as Box};
 ghost use Rattle.spk_run.specs.declared.run_settings.RunSettings.{RunSettings as Settings};
-ghost use Rattle.spk_run.specs.Ising.{KeepsPropensities};
 ghost use Rattle.spk_run.specs.Plans.{cycles, elapsed, window};
 ghost use Rattle.spk_run.specs.Output.{prints_then};
 ghost use Rattle.spk_run.specs.Runs.{mark_text, domain_after};
-ghost use Rattle.spk_run.specs.Running.{HasDone, IsReady, RunsOn};
+ghost use Rattle.spk_run.specs.Running.{HasDone, HasRoomFor, IsReady, IsRunnable, RunsOn};
 ghost use Rattle.spk_run.specs.Telling.{GoesOnTelling};
 
 use crate::answer::Target;
-use crate::counts::Counts;
 use crate::domain::Domain;
 use crate::output::Output;
 use crate::plan::Plan;
-use crate::propensities::Propensities;
-use crate::rank_state::RankState;
+use crate::rank::Rank;
 use crate::statistics::{LINE_ROOM, StatsLine};
 use crate::streams::Streams;
 use crate::teller::Teller;
+use crate::values::Values;
+use spk_app::{App, Steps};
 use spk_lattice::Lattice;
+use spk_turn::{Counts, Propensities};
 use spk_world::World;
 use std::alloc::{AllocError, Global};
+use std::sync::ledger::Ledger;
 
 /// What a run needs besides the box. It is made before the run's first write.
 #[derive(Debug, Drop)]
@@ -33,6 +35,7 @@ pub struct RunRoom {
     pub output: Output,
     /// A line of statistics.
     pub line: Vec<u8>,
+    /// As many propensities as sites.
     pub kept: Propensities,
 }
 
@@ -46,8 +49,7 @@ pub struct Running {
     /// The events before the run.
     pub counts: Counts,
     pub sweeps: u64,
-    pub state: RankState,
-    pub kept: Propensities,
+    pub rank: Rank,
     pub line: Vec<u8>,
     pub teller: Teller,
 }
@@ -62,75 +64,83 @@ pub struct Finished {
 impl RunRoom {
     /// The room for a run of the sites of a box.
     pub fn new(alloc: Global, domain: &Domain, output: Output) -> Result<RunRoom, AllocError>
-        requires { length domain.now.values ≡ sites_of domain.now.lattice }
-        ensures line { IfOk result (λ room. 128 ≤ vec_capacity room.line) }
-        ensures kept { IfOk result (λ room. KeepsPropensities domain.now.lattice domain.now.values room.kept) }
+        ensures room { IfOk result (HasRoomFor domain.now) }
         ensures output { IfOk result (λ room. room.output ≡ output) }
     {
         Ok(RunRoom {
             output,
             line: Vec::with_capacity(alloc, LINE_ROOM)?,
-            kept: Propensities::of(alloc, &domain.lattice, &domain.values)?,
+            kept: Propensities::zeros(alloc, domain.lattice.sites())?,
         })
     }
 }
 
 impl Running {
     /// A run of a box before its first text.
-    pub fn new(domain: Domain, room: RunRoom) -> Running
-        requires line { 128 ≤ vec_capacity room.line }
-        requires kept { KeepsPropensities domain.lattice domain.values room.kept }
-        ensures done { (settings : Settings) → HasDone settings domain 0 result }
+    pub fn new<A: App, L: Ledger>(
+        app: &A,
+        domain: Domain,
+        room: RunRoom,
+        steps: &mut Steps<L>,
+    ) -> Running
+        requires { IsRunnable (A.rules app.now) domain room }
+        ensures done { (settings : Settings) → HasDone (A.rules app.now) settings domain 0 result }
         ensures output { result.teller.output ≡ room.output }
         ensures written { result.teller.written ≡ Ok tt }
-        ensures ready { IsReady result }
+        ensures ready { IsReady (A.rules app.now) (A.PROP + A.STEP) result }
         ensures time { result.time ≡ domain.time }
     {
-        let stream = domain.streams.first();
+        let Domain {
+            lattice,
+            time,
+            values,
+            streams,
+            counts,
+            sweeps,
+        } = domain;
+        let RunRoom { output, line, kept } = room;
+        let stream = streams.first();
+        let rank = Rank::new(app, &lattice, values.into_vec(), stream, kept, steps);
         Running {
-            lattice: domain.lattice,
-            time: domain.time,
-            streams: domain.streams,
-            counts: domain.counts,
-            sweeps: domain.sweeps,
-            state: RankState {
-                values: domain.values,
-                stream,
-                counts: Counts::none(),
-            },
-            kept: room.kept,
-            line: room.line,
-            teller: Teller::new(room.output),
+            lattice,
+            time,
+            streams,
+            counts,
+            sweeps,
+            rank,
+            line,
+            teller: Teller::new(output),
         }
     }
 
     /// The turn of a cycle, with a window of so many ticks.
-    fn turn(&mut self, ticks: u64)
-        requires { IsReady self.old }
-        ensures ready { IsReady self.new }
+    fn turn<A: App, L: Ledger>(&mut self, app: &A, ticks: u64, steps: &mut Steps<L>)
+        requires { IsReady (A.rules app.now) (A.PROP + A.STEP) self.old }
+        ensures ready { IsReady (A.rules app.now) (A.PROP + A.STEP) self.new }
         ensures time { self.new.time ≡ self.old.time }
         ensures done { (settings : Settings) (domain : Box) (done : ℕ) → settings.sectors ≡ 1 → ticks ≡ window settings done →
-            HasDone settings domain done self.old → HasDone settings domain (done + 1) self.new }
+            HasDone (A.rules app.now) settings domain done self.old → HasDone (A.rules app.now) settings domain (done + 1) self.new }
         ensures teller { self.new.teller ≡ self.old.teller }
     {
-        self.state.turn(&self.lattice, &mut self.kept, ticks);
+        self.rank.turn(app, &self.lattice, ticks, steps);
     }
 
     /// Writes the line of statistics after so many ticks.
     pub fn tell<W: World>(&mut self, world: &mut W, ticks: u64)
-        requires ready { IsReady self.old }
+        requires line { 128 ≤ vec_capacity self.old.line }
         requires fits { self.old.time + ticks < 2 ^ 64 }
-        ensures ready { IsReady self.new }
-        ensures done { (settings : Settings) (domain : Box) (done : ℕ) → HasDone settings domain done self.old → HasDone settings domain done self.new }
-        ensures telling { (settings : Settings) (domain : Box) (done : ℕ) (start : WorldState) (log : Option (List ℕ)) (whole rest : Effect (Unit {0})) →
-            settings.sectors ≡ 1 → ticks ≡ elapsed settings done → HasDone settings domain done self.old →
-            GoesOnTelling start (W.state world.old) log self.old.teller whole (prints_then log (mark_text settings domain done) rest) →
+        ensures ready { (application : Application) (hops : ℕ) → IsReady application hops self.old → IsReady application hops self.new }
+        ensures done { (application : Application) (settings : Settings) (domain : Box) (done : ℕ) →
+            HasDone application settings domain done self.old → HasDone application settings domain done self.new }
+        ensures telling { (application : Application) (settings : Settings) (domain : Box) (done : ℕ) (start : WorldState) (log : Option (List ℕ)) (whole rest : Effect (Unit {0})) →
+            settings.sectors ≡ 1 → ticks ≡ elapsed settings done → HasDone application settings domain done self.old →
+            GoesOnTelling start (W.state world.old) log self.old.teller whole (prints_then log (mark_text application settings domain done) rest) →
             GoesOnTelling start (W.state world.new) log self.new.teller whole rest }
         ensures time { self.new.time ≡ self.old.time }
     {
         let line = StatsLine {
             time: self.time + ticks,
-            counts: self.counts.plus(self.state.counts),
+            counts: self.counts.plus(self.rank.counts),
             sweeps: self.sweeps,
         };
         line.write(&mut self.line);
@@ -138,18 +148,26 @@ impl Running {
     }
 
     /// Goes on with a cycle of its plan.
-    pub fn cycle<W: World>(&mut self, plan: &Plan, cycle: u64, world: &mut W)
+    pub fn cycle<W: World, A: App, L: Ledger>(
+        &mut self,
+        app: &A,
+        plan: &Plan,
+        cycle: u64,
+        steps: &mut Steps<L>,
+        world: &mut W,
+    )
         requires one_sector { plan.now.sectors ≡ 1 }
-        requires ready { IsReady self.old }
+        requires ready { IsReady (A.rules app.now) (A.PROP + A.STEP) self.old }
         requires fits { self.old.time + plan.now.length < 2 ^ 64 }
         requires cycle { cycle < cycles plan.now }
-        ensures runs { (start : WorldState) (log : Option (List ℕ)) (domain : Box) → RunsOn start (W.state world.old) log plan.now domain cycle self.old →
-            RunsOn start (W.state world.new) log plan.now domain (cycle + 1) self.new }
-        ensures ready { IsReady self.new }
+        ensures runs { (start : WorldState) (log : Option (List ℕ)) (domain : Box) →
+            RunsOn start (W.state world.old) log (A.rules app.now) plan.now domain cycle self.old →
+            RunsOn start (W.state world.new) log (A.rules app.now) plan.now domain (cycle + 1) self.new }
+        ensures ready { IsReady (A.rules app.now) (A.PROP + A.STEP) self.new }
         ensures time { self.new.time ≡ self.old.time }
     {
         let done = plan.elapsed(cycle + 1);
-        self.turn(done.saturating_sub(plan.elapsed(cycle)));
+        self.turn(app, done.saturating_sub(plan.elapsed(cycle)), steps);
         if plan.is_mark(cycle) {
             self.tell(world, done);
         }
@@ -157,9 +175,10 @@ impl Running {
 
     /// The box after a run of so many ticks.
     pub fn finish(self, ticks: u64) -> Finished
-        requires { self.time + ticks < 2 ^ 64 }
-        ensures domain { (settings : Settings) (domain : Box) → settings.sectors ≡ 1 → settings.length ≡ ticks →
-            HasDone settings domain (cycles settings) self → result.domain ≡ domain_after settings domain }
+        requires fits { self.time + ticks < 2 ^ 64 }
+        requires limit { length self.rank.view.values ≤ 4194304 }
+        ensures domain { (application : Application) (settings : Settings) (domain : Box) → settings.sectors ≡ 1 → settings.length ≡ ticks →
+            HasDone application settings domain (cycles settings) self → result.domain ≡ domain_after application settings domain }
         ensures written { result.written ≡ self.teller.written }
     {
         let Running {
@@ -168,17 +187,17 @@ impl Running {
             mut streams,
             counts,
             sweeps,
-            state,
+            rank,
             teller,
             ..
         } = self;
-        streams.set_first(state.stream);
+        streams.set_first(rank.stream);
         let domain = Domain {
             lattice,
             time: time + ticks,
-            values: state.values,
+            values: Values::of(rank.view.into_values()),
             streams,
-            counts: counts.plus(state.counts),
+            counts: counts.plus(rank.counts),
             sweeps,
         };
         Finished {

@@ -34,6 +34,8 @@ pub struct SessionState {
     /// The box, once it is made.
     pub domain: Option<Domain>,
     pub solver: Option<SolveStyle>,
+    /// In millionths of a unit.
+    pub temperature: u64,
     /// Ticks from one line of statistics to the next, and 0 where only the first and the last are written.
     pub stats: u64,
     pub echo: Echo,
@@ -80,6 +82,7 @@ impl SessionState {
             regions: Regions::new(alloc),
             domain: None,
             solver: None,
+            temperature: 0,
             stats: 0,
             echo: options.echo,
             log,

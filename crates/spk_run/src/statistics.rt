@@ -3,9 +3,9 @@
 ghost use Rattle.std.specs.Prelude.{◌≡◌, ◌++◌, ◌+◌, ◌≤◌, length, vec_len, vec_capacity};
 ghost use Rattle.spk_run.specs.Statistics.{statistics_text};
 
-use crate::counts::Counts;
 use itoa::Buffer;
 use spk_num::decimal_text::print_ticks;
+use spk_turn::Counts;
 
 /// Room for a line of statistics.
 pub const LINE_ROOM: usize = 128;

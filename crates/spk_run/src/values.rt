@@ -1,8 +1,9 @@
 //! The values of the sites.
 
 ghost use Rattle.std.specs.Prelude.{◌≡◌, ◌<◌, ◌≤◌, not, [], length, position, replicate, slice_index, slice_set, IfOk};
-ghost use Rattle.spk_run.specs.Ising.{is_spin};
+ghost use Rattle.spk_run.specs.Applications.{rules_of};
 
+use crate::application::AnyApplication;
 use std::alloc::{AllocError, Global};
 use std::marker::Model;
 
@@ -20,13 +21,6 @@ impl Model for Values {
     ghost view = { λ v. v.items.items };
 
     ghost invariant = { λ v. vec_len v.items ≤ 4194304 };
-}
-
-/// Whether an Ising site can have this value.
-fn is_spin(value: u32) -> bool
-    ensures { result ≡ is_spin value }
-{
-    value == 1 || value == 2
 }
 
 impl Values {
@@ -72,11 +66,28 @@ impl Values {
         self.items[place] = value;
     }
 
-    /// The place of the first site whose value is neither 1 nor 2.
-    pub fn first_other(&self) -> Option<usize>
-        ensures { result ≡ position (λ value. not (is_spin value)) self.now }
+    /// The place of the first site whose value an application doesn't allow.
+    pub fn first_invalid(&self, application: &AnyApplication) -> Option<usize>
+        ensures { result ≡ position (λ value. not ((rules_of application.now).is_valid value)) self.now }
     {
-        self.items.iter().position(|value| !is_spin(*value))
+        self.items
+            .iter()
+            .position(|value| !application.valid(*value))
+    }
+
+    /// The values as a list.
+    pub fn into_vec(self) -> Vec<u32>
+        ensures { result.items ≡ self }
+    {
+        self.items
+    }
+
+    /// The values of a list.
+    pub fn of(items: Vec<u32>) -> Values
+        requires { length items.items ≤ 4194304 }
+        ensures { result ≡ items.items }
+    {
+        Values { items }
     }
 }
 

@@ -14,7 +14,7 @@ use Rattle.spk_lattice.specs.Regions.{place_of, block_named}
 use Rattle.spk_run.specs.declared.state.LatticeStyle.{LatticeStyle}
 use Rattle.spk_run.specs.declared.domain.Domain.{Domain}
 use Rattle.spk_run.specs.declared.state.SessionState.{SessionState}
-use Rattle.spk_run.specs.Turns.{no_counts}
+use Rattle.spk_turn.specs.Turns.{no_counts}
 use Rattle.spk_run.specs.States.{first_of, missing, already, error_of}
 use Rattle.spk_run.specs.Streams.{streams_of}
 

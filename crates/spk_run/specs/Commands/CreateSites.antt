@@ -1,5 +1,5 @@
 -- `create_sites`: new sites have the value 1.
-use Rattle.std.specs.Prelude.{List, [], ◌∷◌, replicate, Option}
+use Rattle.std.specs.Prelude.{[], ◌∷◌, replicate, Option}
 use Rattle.std.specs.Option.{option_map}
 use Rattle.spk_lattice.specs.Layout.{sites_of}
 use Rattle.spk_run.specs.declared.cause.Cause.{Cause}

@@ -1,5 +1,5 @@
 -- `lattice`: how the sites of a box lie.
-use Rattle.std.specs.Prelude.{false, List, [], ◌∷◌, Option}
+use Rattle.std.specs.Prelude.{false, [], ◌∷◌, Option}
 use Rattle.std.specs.Option.{option_map_or}
 use Rattle.spk_num.specs.declared.style.Style.{Style}
 use Rattle.spk_run.specs.declared.cause.Cause.{Cause}

@@ -1,18 +1,12 @@
 -- Commands that aren't built yet, whatever their words are. A session refuses each by its first word.
-use Rattle.std.specs.Prelude.{◌≡◌, ℕ, Bool, true, ◌||◌, false, not, int_lt, pos, if◌then◌else◌, List, codes, Option, Some, None, is_some}
+use Rattle.std.specs.Prelude.{ℕ, Bool, true, false, not, if◌then◌else◌, List, codes, Option, Some, None}
 use Rattle.std.specs.List.{list_any}
-use Rattle.spk_cmds.specs.declared.command.AppStyle.{AppStyle}
-use Rattle.spk_cmds.specs.declared.command.AppStyle.TheVariants.{Ising}
 use Rattle.spk_cmds.specs.declared.command.SolveStyle.{SolveStyle}
 use Rattle.spk_cmds.specs.declared.command.SolveStyle.TheVariants.{Linear}
 use Rattle.spk_cmds.specs.declared.command.Command.{Command}
-use Rattle.spk_cmds.specs.declared.command.Command.TheVariants.{App, Boundary, Processors, ReadSites, WriteRestart, ReadRestart, Sector, Solve, Sweep, Temperature, DiagEnergy, Dump, Undump}
+use Rattle.spk_cmds.specs.declared.command.Command.TheVariants.{Boundary, Processors, ReadSites, WriteRestart, ReadRestart, Sector, Solve, Sweep, DiagEnergy, Dump, Undump}
 
 -- what is built of each command that has several forms
-abbrev pub is_built_app : AppStyle → Bool
-is_built_app Ising = true
-is_built_app style = false
-
 abbrev pub is_built_solver : SolveStyle → Bool
 is_built_solver Linear = true
 is_built_solver style = false
@@ -22,7 +16,6 @@ word_if unbuilt word = if unbuilt then Some word else None
 
 -- the first word of a command that isn't built
 unfoldable pub unbuilt_word : Command → Option (List ℕ)
-unbuilt_word (App style) = word_if (not (is_built_app style)) (codes "app_style")
 unbuilt_word (Boundary faces) = word_if (list_any (λ face. face) faces) (codes "boundary")
 unbuilt_word (Processors ranks) = Some (codes "processors")
 unbuilt_word (ReadSites file) = Some (codes "read_sites")
@@ -31,7 +24,6 @@ unbuilt_word (ReadRestart file) = Some (codes "read_restart")
 unbuilt_word (Sector divided tstop nstop) = Some (codes "sector")
 unbuilt_word (Solve style) = word_if (not (is_built_solver style)) (codes "solve_style")
 unbuilt_word (Sweep style) = Some (codes "sweep")
-unbuilt_word (Temperature t) = word_if (int_lt (pos 0) t.millionths) (codes "temperature")
 unbuilt_word DiagEnergy = Some (codes "diag_style")
 unbuilt_word (Dump name style delta file fields) = Some (codes "dump")
 unbuilt_word (Undump name) = Some (codes "undump")

@@ -9,33 +9,40 @@ use Rattle.spk_run.specs.declared.domain.Domain.{Domain}
 use Rattle.spk_run.specs.declared.run_settings.Cycle.TheVariants.{Nstop}
 use Rattle.spk_run.specs.declared.run_settings.RunSettings.{RunSettings}
 use Rattle.spk_run.specs.declared.state.SessionState.{SessionState}
-use Rattle.spk_run.specs.Ising.{ising}
+use Rattle.spk_app.specs.Applications.{Application}
+use Rattle.spk_cmds.specs.declared.command.AppStyle.{AppStyle}
+use Rattle.spk_run.specs.Applications.{application_of}
 use Rattle.spk_run.specs.Plans.{is_too_long}
 use Rattle.spk_run.specs.Runs.{runs}
 use Rattle.spk_run.specs.States.{first_of, if_so, missing, are_made}
 
+-- the application of a session on a box
+abbrev pub application_on : SessionState → AppStyle → Domain → Application
+application_on state style domain = application_of style domain.lattice.style state.temperature
+
 -- without `sector`, a cycle has one step and takes the time in which the readiest site has one event on the average
-abbrev pub settings_of : SessionState → ℕ → Domain → RunSettings
-settings_of state length domain = record {
+abbrev pub settings_of : SessionState → ℕ → Application → Domain → RunSettings
+settings_of state length application domain = record {
   start = domain.time;
   length = length;
   cycle = Nstop 1000000;
-  largest = ising.largest;
+  largest = application.largest;
   sectors = 1;
   sweep = None;
   stats = state.stats;
 }
 
 -- sites are counted from 1
-abbrev pub bad_value : List ℕ → Option Cause
-bad_value values = option_map (λ place. BadValueForApp (place + 1)) (position (λ value. not (ising.is_valid value)) values)
+abbrev pub bad_value : Application → List ℕ → Option Cause
+bad_value application values = option_map (λ place. BadValueForApp (place + 1)) (position (λ value. not (application.is_valid value)) values)
 
-abbrev pub domain_cause : SessionState → ℕ → Domain → Option Cause
-domain_cause state length domain = first_of (bad_value domain.values ∷ if_so (is_too_long (settings_of state length domain)) RunTooLong ∷ [])
+abbrev pub domain_cause : SessionState → ℕ → Application → Domain → Option Cause
+domain_cause state length application domain =
+    first_of (bad_value application domain.values ∷ if_so (is_too_long (settings_of state length application domain)) RunTooLong ∷ [])
 
-abbrev pub domain_causes : SessionState → ℕ → Option Domain → Option Cause
-domain_causes state length None = None
-domain_causes state length (Some domain) = domain_cause state length domain
+abbrev pub domain_causes : SessionState → ℕ → Option AppStyle → Option Domain → Option Cause
+domain_causes state length (Some style) (Some domain) = domain_cause state length (application_on state style domain) domain
+domain_causes state length style domain = None
 
 abbrev pub run_causes : SessionState → ℕ → List (Option Cause)
 run_causes state length =
@@ -44,7 +51,7 @@ run_causes state length =
     ∷ missing state.domain NoBox
     ∷ if_so (not (are_made state.domain)) NoSites
     ∷ missing state.solver NoSolver
-    ∷ domain_causes state length state.domain
+    ∷ domain_causes state length state.app state.domain
     ∷ []
 
 abbrev pub run_cause : SessionState → ℕ → Option Cause
@@ -53,16 +60,17 @@ run_cause state length = first_of (run_causes state length)
 abbrev pub with_domain : SessionState → Domain → SessionState
 with_domain state domain = record state { domain = Some domain }
 
-abbrev pub runs_by : SessionState → RunSettings → Domain → Effect (Result SessionState Cause)
-runs_by state settings domain = runs state.log settings domain >>= λ after. answers (Ok (with_domain state after))
+abbrev pub runs_by : SessionState → Application → RunSettings → Domain → Effect (Result SessionState Cause)
+runs_by state application settings domain = runs state.log application settings domain >>= λ after. answers (Ok (with_domain state after))
 
-abbrev pub runs_domain_by : SessionState → RunSettings → Option Domain → Effect (Result SessionState Cause)
-runs_domain_by state settings None = answers (Ok state)
-runs_domain_by state settings (Some domain) = runs_by state settings domain
+abbrev pub runs_domain_by : SessionState → Application → RunSettings → Option Domain → Effect (Result SessionState Cause)
+runs_domain_by state application settings None = answers (Ok state)
+runs_domain_by state application settings (Some domain) = runs_by state application settings domain
 
-abbrev pub runs_domain : SessionState → ℕ → Option Domain → Effect (Result SessionState Cause)
-runs_domain state length None = answers (Ok state)
-runs_domain state length (Some domain) = runs_by state (settings_of state length domain) domain
+abbrev pub runs_domain : SessionState → ℕ → Option AppStyle → Option Domain → Effect (Result SessionState Cause)
+runs_domain state length (Some style) (Some domain) =
+    runs_by state (application_on state style domain) (settings_of state length (application_on state style domain) domain) domain
+runs_domain state length style domain = answers (Ok state)
 
 abbrev pub performs_run : SessionState → ℕ → Effect (Result SessionState Cause)
-performs_run state length = runs_domain state length state.domain
+performs_run state length = runs_domain state length state.app state.domain

@@ -8,7 +8,6 @@ ghost use Rattle.spk_run.specs.Causes.{IsOfState};
 ghost use Rattle.spk_run.specs.Commands.CreateBox.{is_zero, is_whole, cells_between, lattice_made, cells_along, layout_in, box_of, box_cause, new_domain, with_box};
 
 use crate::cause::Cause;
-use crate::counts::Counts;
 use crate::domain::Domain;
 use crate::seed::Seed;
 use crate::state::SessionState;
@@ -19,6 +18,7 @@ use spk_num::decimal::Dec;
 use spk_num::shape::Bound;
 use spk_num::style::Style;
 use spk_num::text::Text;
+use spk_turn::Counts;
 use std::alloc::{AllocError, Global};
 
 /// So many millionths are one unit.

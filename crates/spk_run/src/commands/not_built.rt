@@ -2,17 +2,11 @@
 
 ghost use Rattle.std.specs.Prelude.{◌≡◌, not, IfOk};
 ghost use Rattle.std.specs.List.{list_any};
-ghost use Rattle.spk_run.specs.Commands.NotBuilt.{is_built_app, is_built_solver, word_if, unbuilt_word};
+ghost use Rattle.spk_run.specs.Commands.NotBuilt.{is_built_solver, word_if, unbuilt_word};
 
-use spk_cmds::{AppStyle, Command, SolveStyle};
+use spk_cmds::{Command, SolveStyle};
 use spk_num::text::Text;
 use std::alloc::{AllocError, Global};
-
-fn is_built_app(style: AppStyle) -> bool
-    ensures { result ≡ is_built_app style }
-{
-    matches!(style, AppStyle::Ising)
-}
 
 fn is_built_solver(style: SolveStyle) -> bool
     ensures { result ≡ is_built_solver style }
@@ -43,7 +37,6 @@ pub fn unbuilt_word(alloc: Global, command: &Command) -> Result<Option<Text>, Al
     ensures { IfOk result (λ found. found ≡ unbuilt_word command.now) }
 {
     match command {
-        Command::App { style } => word_if(alloc, !is_built_app(*style), "app_style"),
         Command::Boundary { faces } => word_if(alloc, has_open_face(faces), "boundary"),
         Command::Processors { .. } => word_if(alloc, true, "processors"),
         Command::ReadSites { .. } => word_if(alloc, true, "read_sites"),
@@ -52,17 +45,18 @@ pub fn unbuilt_word(alloc: Global, command: &Command) -> Result<Option<Text>, Al
         Command::Sector { .. } => word_if(alloc, true, "sector"),
         Command::Solve { style } => word_if(alloc, !is_built_solver(*style), "solve_style"),
         Command::Sweep { .. } => word_if(alloc, true, "sweep"),
-        Command::Temperature { t } => word_if(alloc, t.millionths > 0, "temperature"),
         Command::DiagEnergy => word_if(alloc, true, "diag_style"),
         Command::Dump { .. } => word_if(alloc, true, "dump"),
         Command::Undump { .. } => word_if(alloc, true, "undump"),
         Command::Seed { .. }
+        | Command::App { .. }
         | Command::Dimension { .. }
         | Command::Lattice { .. }
         | Command::Region { .. }
         | Command::CreateBox { .. }
         | Command::CreateSites
         | Command::Set { .. }
+        | Command::Temperature { .. }
         | Command::Stats { .. }
         | Command::Run { .. }
         | Command::Print { .. }

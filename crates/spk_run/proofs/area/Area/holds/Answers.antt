@@ -1,4 +1,3 @@
-use Rattle.std.proofs.Common.{sym}
 use Rattle.spk_run.proofs.Areas.{all_in, none_in, region_in}
 use Rattle.spk_run.proofs.area.Area.holds.Goals as goal
 

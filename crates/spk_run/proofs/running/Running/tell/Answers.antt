@@ -6,17 +6,16 @@ use Rattle.spk_run.specs.Runs.{mark_text}
 use Rattle.spk_run.proofs.running.Running.tell.Goals as goal
 
 pub returns-clause-telling : goal.returns-clause-telling
-returns-clause-telling g c = λ settings domain done start log whole rest one elapsed_is has on.
-    let text : mark_text settings domain done ≡ c.deref.result.now =
-    told_text settings domain done c.args.ticks c.args.self.now one elapsed_is has ∙ sym (c.deref.ensures.value ∙ (rw c.plus.ensures at c.write.ensures.text)) in
+returns-clause-telling g c = λ application settings domain done start log whole rest one elapsed_is has on.
+    let text : mark_text application settings domain done ≡ c.deref.result.now =
+    told_text application settings domain done c.args.ticks c.args.self.now one elapsed_is has ∙ sym (c.deref.ensures.value ∙ (rw c.plus.ensures at c.write.ensures.text)) in
     c.tell.ensures start log whole rest (subst (λ (t : List ℕ). GoesOnTelling start (g.W.World.state c.args.world.now) log c.args.self.now.teller whole (prints_then log t rest)) text on)
 
 pub returns-clause-done : goal.returns-clause-done
-returns-clause-done g c = λ settings domain done has. record {
+returns-clause-done g c = λ application settings domain done has. record {
   keeps = record { lattice = has.keeps.lattice; time = has.keeps.time; streams = has.keeps.streams; counts = has.keeps.counts; sweeps = has.keeps.sweeps; some_stream = has.keeps.some_stream; line = c.write.ensures.room };
   state = has.state;
-  kept = has.kept;
 }
 
 pub returns-clause-ready : goal.returns-clause-ready
-returns-clause-ready g c = record { kept = c.requires.ready.kept; line = c.write.ensures.room }
+returns-clause-ready g c = λ application hops ready. record { kept = ready.kept; line = c.write.ensures.room }

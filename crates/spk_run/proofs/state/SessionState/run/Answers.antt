@@ -1,5 +1,8 @@
-use Rattle.spk_run.proofs.CommandSteps.{done_out_of_memory}
+use Rattle.spk_run.proofs.CommandSteps.{done_out_of_memory, runnable_for}
 use Rattle.spk_run.proofs.state.SessionState.run.Goals as goal
 
-pub returns-in_err-plan-clause-wrote : goal.returns-in_err-plan-clause-wrote
-returns-in_err-plan-clause-wrote g c = done_out_of_memory _ _ c.from_residual.ensures.1
+pub returns-in_err-prepared-clause-wrote : goal.returns-in_err-prepared-clause-wrote
+returns-in_err-prepared-clause-wrote g c = done_out_of_memory _ _ c.from_residual.ensures.1
+
+pub run_with-requires-clause-runnable : goal.run_with-requires-clause-runnable
+run_with-requires-clause-runnable g c = runnable_for c.args.self.now c.args.length c.in-Some.prepared (rw c.in-Some.is at c.in_ok-prepared.ensures) c.requires.free

@@ -1,4 +1,4 @@
-use Rattle.std.proofs.Common.{◌≤◌, length, ◌∙◌, arith}
+use Rattle.std.proofs.Common.{◌∙◌, arith}
 use Rattle.spk_run.specs.Commands.Set.{is_in}
 use Rattle.spk_run.proofs.DrawnValues.{sites_done}
 use Rattle.spk_run.proofs.values.Values.set_each.Goals as goal

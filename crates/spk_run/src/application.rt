@@ -1,0 +1,103 @@
+//! The application of a session.
+
+ghost use Rattle.std.specs.Prelude.{◌≡◌, ◌+◌, ◌^◌, ◌<◌, ◌≤◌, length};
+ghost use Rattle.spk_world.specs.Effects.{Wrote};
+ghost use Rattle.spk_run.specs.Applications.{application_of, rules_of};
+ghost use Rattle.spk_run.specs.Output.{prints_all};
+ghost use Rattle.spk_run.specs.Runs.{run_texts, domain_after};
+ghost use Rattle.spk_run.specs.Running.{IsRunnable};
+ghost use Rattle.spk_run.specs.Endings.{target_stop};
+
+use crate::domain::Domain;
+use crate::plan::Plan;
+use crate::run::run;
+use crate::running::{Finished, RunRoom};
+use spk_app::App;
+use spk_cmds::AppStyle;
+use spk_diffusion::Diffusion;
+use spk_lattice::Lattice;
+use spk_potts::{Ising, Potts};
+use spk_world::World;
+use std::marker::Brand;
+use std::sync::ledger::Blank;
+
+/// One of the applications. A further one is a variant more, and an arm in each function here.
+#[derive(Clone, Copy, Debug)]
+pub enum AnyApplication {
+    Ising(Ising),
+    Potts(Potts),
+    Diffusion(Diffusion),
+}
+
+impl AnyApplication {
+    /// The application of a style on a lattice, at a temperature in millionths.
+    pub fn of(style: AppStyle, lattice: &Lattice, temperature: u64) -> AnyApplication
+        ensures { rules_of result ≡ application_of style lattice.now.style temperature }
+    {
+        match style {
+            AppStyle::Ising => AnyApplication::Ising(Ising::new(false, lattice, temperature)),
+            AppStyle::IsingSingle => AnyApplication::Ising(Ising::new(true, lattice, temperature)),
+            AppStyle::Potts(q) => AnyApplication::Potts(Potts::new(q, false, lattice, temperature)),
+            AppStyle::PottsNeighonly(q) => {
+                AnyApplication::Potts(Potts::new(q, true, lattice, temperature))
+            }
+            AppStyle::DiffusionOff => {
+                AnyApplication::Diffusion(Diffusion::new(false, lattice, temperature))
+            }
+            AppStyle::DiffusionLinear => {
+                AnyApplication::Diffusion(Diffusion::new(true, lattice, temperature))
+            }
+        }
+    }
+
+    /// The most that the weights of a site's events add up to, in units of 2^-30.
+    pub fn largest(&self) -> u64
+        ensures largest { result ≡ (rules_of self.now).largest }
+        ensures above { 1 ≤ result }
+    {
+        match self {
+            AnyApplication::Ising(app) => app.largest(),
+            AnyApplication::Potts(app) => app.largest(),
+            AnyApplication::Diffusion(app) => app.largest(),
+        }
+    }
+
+    /// Whether a site may have this value.
+    pub fn valid(&self, value: u32) -> bool
+        ensures { result ≡ (rules_of self.now).is_valid value }
+    {
+        match self {
+            AnyApplication::Ising(app) => app.valid(value),
+            AnyApplication::Potts(app) => app.valid(value),
+            AnyApplication::Diffusion(app) => app.valid(value),
+        }
+    }
+
+    /// Runs the sites of a box by a plan.
+    pub fn run<W: World>(
+        self,
+        domain: Domain,
+        plan: &Plan,
+        room: RunRoom,
+        world: &mut W,
+    ) -> Finished
+        requires one_sector { plan.now.sectors ≡ 1 }
+        requires runnable { IsRunnable (rules_of self) domain room }
+        requires fits { domain.time + plan.now.length < 2 ^ 64 }
+        ensures domain { result.domain ≡ domain_after (rules_of self) plan.now domain }
+        ensures wrote { Wrote target_stop (W.state world.old) (W.state world.new) (prints_all room.output.log (run_texts (rules_of self) plan.now domain)) result.written }
+    {
+        let blank = Blank::new(1);
+        match self {
+            AnyApplication::Ising(app) => run::<W, Ising, Brand>(
+                &app, domain, plan, room, blank, world,
+            ),
+            AnyApplication::Potts(app) => run::<W, Potts, Brand>(
+                &app, domain, plan, room, blank, world,
+            ),
+            AnyApplication::Diffusion(app) => {
+                run::<W, Diffusion, Brand>(&app, domain, plan, room, blank, world)
+            }
+        }
+    }
+}
