@@ -1,0 +1,6 @@
+pub mod BinSums
+pub mod Inside
+pub mod Keeps
+pub mod Members
+pub mod Names
+pub mod Tries
