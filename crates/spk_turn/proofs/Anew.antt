@@ -1,5 +1,5 @@
 -- Kept propensities of which some are still to be taken afresh.
-use Rattle.std.proofs.Common.{◌≡◌, ◌≢◌, ℕ, zero, suc, ◌+◌, ◌<◌, ◌≤◌, List, [], ◌∷◌, length, get_or, set, drop, sym, ◌∙◌, subst, inl, inr, arith, get_or-set_same, get_or-set_other}
+use Rattle.std.proofs.Common.{◌≡◌, ◌≢◌, ℕ, zero, suc, ◌+◌, ◌<◌, ◌≤◌, List, [], ◌∷◌, length, get_or, set, drop, refl, sym, ◌∙◌, subst, inl, inr, arith, get_or-set_same, get_or-set_other}
 use Rattle.std.proofs.lemmas.List.{length-set, ext_get_or, drop_more, drop_all}
 use Rattle.std.proofs.lemmas.List.FromFn.{length-map-range_with_len, get_or-map-range_with_len}
 use Rattle.std.proofs.lemmas.Bool.{cases_eq}
@@ -8,18 +8,24 @@ use Rattle.spk_lattice.specs.Hops.{IsWithin}
 use Rattle.spk_app.specs.Sights.{Sight}
 use Rattle.spk_app.specs.Applications.{Application, propensity}
 use Rattle.spk_turn.specs.Turns.{propensities}
-use Rattle.spk_turn.specs.Ready.{propensities_in}
+use Rattle.spk_solve.specs.Choice.{Rule}
+use Rattle.spk_turn.specs.Ready.{whole_view, propensities_in}
 
 -- the propensity of a place, afresh
 abbrev pub propensity_in : Application → Sight → ℕ → ℕ
 propensity_in app sight place = propensity (app.events sight place)
 
+-- they are those of the sector, whatever the rule
+pub propensities_are : (app : Application) (rule : Rule) (sight : Sight) → propensities_in app sight ≡ propensities (whole_view app rule sight) sight.values
+unfolding propensities propensities_in
+propensities_are app rule sight = refl
+
 pub length-propensities : (app : Application) (sight : Sight) → length (propensities_in app sight) ≡ length sight.values
-unfolding propensities
+unfolding propensities_in
 length-propensities app sight = length-map-range_with_len (propensity_in app sight) 0 (length sight.values)
 
 pub propensity_at : (app : Application) (sight : Sight) (place : ℕ) → place < length sight.values → get_or (propensities_in app sight) place 0 ≡ propensity_in app sight place
-unfolding propensities
+unfolding propensities_in
 propensity_at app sight place less = get_or-map-range_with_len (propensity_in app sight) 0 (length sight.values) place place 0 less (omega arith)
 
 -- kept propensities are right, but maybe not at these places

@@ -1,5 +1,5 @@
 -- A place and a rest name the same event as the list of all events does.
-use Rattle.std.proofs.Common.{◌≡◌, ℕ, zero, suc, ◌+◌, ◌<◌, List, [], ◌∷◌, map, length, get_or, take, sum, refl, sym, ap, ◌∙◌, inl, inr, arith, zero-add}
+use Rattle.std.proofs.Common.{subst, ◌≡◌, ℕ, zero, suc, ◌+◌, ◌<◌, List, [], ◌∷◌, map, length, get_or, take, sum, refl, sym, ap, ◌∙◌, inl, inr, arith, zero-add}
 use Rattle.std.proofs.lemmas.List.{length-map}
 use Rattle.std.proofs.lemmas.List.Sums.{sum_by-cons}
 use Rattle.std.proofs.lemmas.List.FromFn.{length-range_with_len, get_or-range_with_len}
@@ -7,10 +7,13 @@ use Rattle.std.specs.Prelude.{sum_by, Option, None, Some, flat_map, option_map}
 use Rattle.std.specs.List.{range_with_len}
 use Rattle.spk_app.specs.Sights.{Sight, written}
 use Rattle.spk_app.specs.Applications.{Application, Event, propensity}
-use Rattle.spk_turn.specs.Choice.{named_from, named, IsNamed}
-use Rattle.spk_turn.specs.Turns.{SiteEvent, at_site, weight_of, all_events, propensities, after_event_of}
+use Rattle.spk_solve.specs.declared.solver.Chosen.{Chosen}
+use Rattle.spk_solve.specs.Choice.{Rule, RunningSum, Bins, Chooses, named_from, named, IsNamed, target_of, bin_choice}
+use Rattle.spk_turn.specs.Turns.{SiteEvent, at_site, weight_of, all_events, propensities, after_event_of, event_by}
 use Rattle.spk_turn.specs.Ready.{whole_view, propensities_in}
-use Rattle.spk_turn.proofs.Names.{here, passed, here_or_passed, named_first, named_after, named_shift}
+use Rattle.spk_turn.proofs.Anew.{propensities_are}
+use Rattle.spk_solve.proofs.Names.{here, passed, here_or_passed}
+use Rattle.spk_turn.proofs.Names.{named_first, named_after, named_shift}
 
 abbrev weight : Event → ℕ
 weight e = e.weight
@@ -62,12 +65,12 @@ told_sums app sight (place ∷ places) =
     ∙ ap (λ ns. sum_by weight_of (map (at_site place) (app.events sight place)) ∷ ns) (told_sums app sight places)
 
 -- the event that a target names, by a place and a rest
-pub named_event : (app : Application) (sight : Sight) (target place rest : ℕ)
+pub named_event : (app : Application) (rule : Rule) (sight : Sight) (target place rest : ℕ)
     → IsNamed (propensities_in app sight) target place rest
     → rest < propensity (app.events sight place)
-    → named weight_of target (all_events (whole_view app sight) sight.values) ≡ option_map (at_site place) (named weight rest (app.events sight place))
-unfolding all_events named propensity propensities
-named_event app sight target place rest is left =
+    → named weight_of target (all_events (whole_view app rule sight) sight.values) ≡ option_map (at_site place) (named weight rest (app.events sight place))
+unfolding all_events named propensity propensities_in
+named_event app rule sight target place rest is left =
     let n : ℕ = length sight.values in
     let sites : List ℕ = range_with_len 0 n in
     let f : ℕ → List SiteEvent = λ place. map (at_site place) (app.events sight place) in
@@ -82,15 +85,32 @@ named_event app sight target place rest is left =
     ∙ told_name place 0 rest (app.events sight place)
 
 -- what the named event leaves
-left_by : (app : Application) (sight : Sight) (place mark : ℕ) (e : Option Event) → option_map (λ (e : Event). e.mark) e ≡ Some mark →
-    after_event_of (whole_view app sight) sight.values (option_map (at_site place) e) ≡ written (app.writes sight place mark) sight.values
-left_by app sight place mark None is = absurd cc
-left_by app sight place mark (Some e) is = let same : e.mark ≡ mark = cc in rw same refl
+left_by : (app : Application) (rule : Rule) (sight : Sight) (place mark : ℕ) (e : Option Event) → option_map (λ (e : Event). e.mark) e ≡ Some mark →
+    after_event_of (whole_view app rule sight) sight.values (option_map (at_site place) e) ≡ written (app.writes sight place mark) sight.values
+left_by app rule sight place mark None is = absurd cc
+left_by app rule sight place mark (Some e) is = let same : e.mark ≡ mark = cc in rw same refl
 
-pub after_named : (app : Application) (sight : Sight) (target place rest mark : ℕ)
-    → IsNamed (propensities_in app sight) target place rest
-    → rest < propensity (app.events sight place)
-    → option_map (λ (e : Event). e.mark) (named weight rest (app.events sight place)) ≡ Some mark
-    → written (app.writes sight place mark) sight.values ≡ after_event_of (whole_view app sight) sight.values (named weight_of target (all_events (whole_view app sight) sight.values))
-after_named app sight target place rest mark is left marked =
-    sym (ap (after_event_of (whole_view app sight) sight.values) (named_event app sight target place rest is left) ∙ left_by app sight place mark (named weight rest (app.events sight place)) marked)
+-- the rest names the same event of the site, told its site or not
+named_there : (app : Application) (sight : Sight) (place rest : ℕ) → named weight_of rest (map (at_site place) (app.events sight place)) ≡ option_map (at_site place) (named weight rest (app.events sight place))
+unfolding named
+named_there app sight place rest = told_name place 0 rest (app.events sight place)
+
+-- the event that is chosen leaves what the mark that the rest names writes
+pub after_chosen : (app : Application) (rule : Rule) (sight : Sight) (stream after mark : ℕ) (chosen : Chosen)
+    → Chooses rule (propensities_in app sight) stream chosen after
+    → chosen.place < length sight.values
+    → chosen.rest < propensity (app.events sight chosen.place)
+    → option_map (λ (e : Event). e.mark) (named weight chosen.rest (app.events sight chosen.place)) ≡ Some mark
+    → written (app.writes sight chosen.place mark) sight.values ≡ after_event_of (whole_view app rule sight) sight.values (event_by rule (whole_view app rule sight) sight.values stream)
+unfolding event_by
+after_chosen app RunningSum sight stream after mark chosen (names, is) less left marked =
+    let found : IsNamed (propensities_in app sight) (target_of (propensities (whole_view app RunningSum sight) sight.values) stream) chosen.place chosen.rest =
+    subst (λ (ps : List ℕ). IsNamed (propensities_in app sight) (target_of ps stream) chosen.place chosen.rest) (propensities_are app RunningSum sight) names in
+    sym (ap (after_event_of (whole_view app RunningSum sight) sight.values) (named_event app RunningSum sight (target_of (propensities (whole_view app RunningSum sight) sight.values) stream) chosen.place chosen.rest found left)
+    ∙ left_by app RunningSum sight chosen.place mark (named weight chosen.rest (app.events sight chosen.place)) marked)
+after_chosen app Bins sight stream after mark chosen is less left marked =
+    let chose : bin_choice (propensities (whole_view app Bins sight) sight.values) stream ≡ Some (record { place = chosen.place; rest = chosen.rest; stream = after }) =
+    subst (λ (ps : List ℕ). bin_choice ps stream ≡ Some (record { place = chosen.place; rest = chosen.rest; stream = after })) (propensities_are app Bins sight) is in
+    let site : get_or (range_with_len 0 (length sight.values)) chosen.place 0 ≡ chosen.place = get_or-range_with_len 0 (length sight.values) chosen.place 0 less ∙ zero-add chosen.place in
+    sym (rw (chose, site) (ap (after_event_of (whole_view app Bins sight) sight.values) (named_there app sight chosen.place chosen.rest)
+    ∙ left_by app Bins sight chosen.place mark (named weight chosen.rest (app.events sight chosen.place)) marked))

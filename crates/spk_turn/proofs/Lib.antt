@@ -5,8 +5,7 @@ pub mod Gathering
 pub mod Hops
 pub mod Levels
 pub mod Listed
-pub mod Names
 pub mod Plain
+pub mod Names
 pub mod PlainPlaces
 pub mod Steps
-pub mod Totals

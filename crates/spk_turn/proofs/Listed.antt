@@ -8,8 +8,8 @@ use Rattle.std.specs.Prelude.{Some, slice_index, Contains, option_map}
 use Rattle.spk_app.specs.declared.events.Events.{Events}
 use Rattle.spk_app.specs.Applications.{Event, listed, propensity, HasMark}
 use Rattle.spk_app.proofs.Listed.{event_at, length-listed}
-use Rattle.spk_turn.specs.Choice.{named_from, named}
-use Rattle.spk_turn.proofs.Names.{here, passed}
+use Rattle.spk_solve.specs.Choice.{named_from, named}
+use Rattle.spk_solve.proofs.Names.{here, passed}
 
 -- the event that is listed at a place
 read_listed : (e : Events) (k : ℕ) (d : Event) → k < e.count → get_or (listed e) k d ≡ event_at e k

@@ -1,28 +1,10 @@
--- Laws of what a target names.
-use Rattle.std.proofs.Common.{◌≡◌, ℕ, ◌+◌, ◌<◌, ◌≤◌, ◌++◌, List, [], ◌∷◌, refl, sym, inl, inr, arith, true, false, ◌∙◌, ap, ◌⊎◌}
+-- What a target names in a list of lists.
+use Rattle.std.proofs.Common.{◌≡◌, ℕ, ◌+◌, ◌<◌, ◌≤◌, ◌++◌, List, [], ◌∷◌, refl, sym, inl, inr, arith, ◌∙◌, ap}
 use Rattle.std.proofs.lemmas.List.Sums.{sum_by-cons}
 use Rattle.std.proofs.Math.Nat.{add-zero}
-use Rattle.std.proofs.lemmas.Bool.Decides.{nat_tests}
-use Rattle.std.specs.Prelude.{nat_lt, sum_by, Some}
-use Rattle.spk_turn.specs.Choice.{named_from}
-
--- the first element is named, or passed
-pub here : {E : Type 0} (weight : E → ℕ) (so_far target : ℕ) (e : E) (es : List E)
-    → target < so_far + weight e
-    → named_from weight so_far target (e ∷ es) ≡ Some e
-here weight so_far target e es less =
-    let is : nat_lt target (so_far + weight e) ≡ true = grind (arith, nat_tests) in
-    rw is refl
-
-pub passed : {E : Type 0} (weight : E → ℕ) (so_far target : ℕ) (e : E) (es : List E)
-    → so_far + weight e ≤ target
-    → named_from weight so_far target (e ∷ es) ≡ named_from weight (so_far + weight e) target es
-passed weight so_far target e es more =
-    let is : nat_lt target (so_far + weight e) ≡ false = grind (arith, nat_tests) in
-    rw is refl
-
-pub here_or_passed : (target end : ℕ) → (target < end) ⊎ (end ≤ target)
-here_or_passed target end = grind arith
+use Rattle.std.specs.Prelude.{sum_by}
+use Rattle.spk_solve.specs.Choice.{named_from}
+use Rattle.spk_solve.proofs.Names.{here, passed, here_or_passed}
 
 -- what is named among the first elements of a list, and after them
 pub named_first : {E : Type 0} (weight : E → ℕ) (so_far target : ℕ) (xs ys : List E)

@@ -2,13 +2,15 @@
 use Rattle.std.proofs.Common.{◌≡◌, ℕ, zero, suc, ◌+◌, ◌-◌, ◌<◌, ◌≤◌, ◌==◌, nat_le, true, false, eq-eqb, List, length, sum, refl, sym, ap, ◌∙◌, arith}
 use Rattle.std.proofs.lemmas.Bool.Decides.{nat_tests}
 use Rattle.spk_turn.specs.declared.counts.Counts.{Counts}
-use Rattle.spk_num.specs.Draws.{next_state, below_two_of}
+use Rattle.spk_num.specs.Draws.{next_state}
 use Rattle.spk_num.specs.Logarithm.{wait_of}
-use Rattle.spk_turn.specs.Turns.{Sector, RankState, propensities, total, wait_before, stream_after, with_accepted, after_event, after_event_of, all_events, weight_of, turn_from}
-use Rattle.spk_turn.specs.Choice.{named}
+use Rattle.spk_turn.specs.Turns.{Sector, RankState, propensities, total, wait_before, stream_after, stream_by, with_accepted, after_event, after_event_of, event_by, turn_from}
+use Rattle.spk_solve.specs.declared.solver.Chosen.{Chosen}
+use Rattle.spk_solve.specs.Choice.{Rule, RunningSum, Bins, Chooses}
 use Rattle.spk_app.specs.Sights.{Sight}
 use Rattle.spk_app.specs.Applications.{Application}
-use Rattle.spk_turn.specs.Ready.{whole_view}
+use Rattle.spk_turn.specs.Ready.{whole_view, propensities_in}
+use Rattle.spk_turn.proofs.Anew.{propensities_are}
 
 -- no event is left to do
 pub turn_over : (sector : Sector) (window local : ℕ) (state : RankState) → turn_from sector zero window local state ≡ state
@@ -26,7 +28,7 @@ turn_still sector more window local state still =
 pub turn_late : (sector : Sector) (more window local : ℕ) (state : RankState)
     → 0 < total sector state.values
     → window ≤ local + wait_before sector state
-    → turn_from sector (suc more) window local state ≡ record state { stream = stream_after state }
+    → turn_from sector (suc more) window local state ≡ record state { stream = stream_after sector state }
 unfolding turn_from
 turn_late sector more window local state some late =
     let moves : (total sector state.values == 0) ≡ false = grind (arith, nat_tests) in
@@ -48,49 +50,69 @@ turn_goes sector more window local state some early =
 abbrev pub state_with : List ℕ → ℕ → Counts → RankState
 state_with values stream counts = record { values = values; stream = stream; counts = counts }
 
+-- the stream after a choice
+pub chosen_stream : (rule : Rule) (propensities : List ℕ) (stream : ℕ) (chosen : Chosen) (after : ℕ) → Chooses rule propensities stream chosen after → stream_by rule propensities stream ≡ after
+unfolding stream_by
+chosen_stream RunningSum propensities stream chosen after (names, is) = sym is
+chosen_stream Bins propensities stream chosen after is = rw is refl
+
 -- nothing can happen
-pub event_none : (sector : Sector) (values kept : List ℕ) (stream rest total : ℕ) → kept ≡ propensities sector values → total ≡ sum kept → total ≡ 0 →
-    (more local : ℕ) (counts : Counts) → turn_from sector (suc more) (local + rest) local (state_with values stream counts) ≡ state_with values stream counts
-event_none sector values kept stream rest total kept_is total_is none more local counts =
-    turn_still sector more (local + rest) local (state_with values stream counts) (sym (total_is ∙ ap sum kept_is) ∙ none)
+pub event_none : (app : Application) (rule : Rule) (sight : Sight) (list : List ℕ) (stream rest : ℕ) → list ≡ propensities_in app sight → sum list ≡ 0 →
+    (more local : ℕ) (counts : Counts) → turn_from (whole_view app rule sight) (suc more) (local + rest) local (state_with sight.values stream counts) ≡ state_with sight.values stream counts
+event_none app rule sight list stream rest list_is none more local counts =
+    turn_still (whole_view app rule sight) more (local + rest) local (state_with sight.values stream counts) (ap sum (sym (list_is ∙ propensities_are app rule sight)) ∙ none)
+
+-- what a choice settles: the total, the stream after it, and the time that the event takes
+pub record IsTimed (app : Application) (rule : Rule) (sight : Sight) (stream after ticks : ℕ) : Type 0 where
+  pub some : 0 < total (whole_view app rule sight) sight.values
+  pub stream_is : next_state (stream_by rule (propensities (whole_view app rule sight) sight.values) stream) ≡ next_state after
+  pub ticks_is : ticks ≡ wait_of (total (whole_view app rule sight) sight.values) (next_state after)
+
+pub timed : (app : Application) (rule : Rule) (sight : Sight) (list : List ℕ) (stream after ticks : ℕ) (chosen : Chosen)
+    → list ≡ propensities_in app sight
+    → 0 < sum list
+    → Chooses rule list stream chosen after
+    → ticks ≡ wait_of (sum list) (next_state after)
+    → IsTimed app rule sight stream after ticks
+timed app rule sight list stream after ticks chosen list_is some chooses ticks_is =
+    let same : list ≡ propensities (whole_view app rule sight) sight.values = list_is ∙ propensities_are app rule sight in
+    record {
+      some = rw (ap sum same) at some;
+      stream_is = ap next_state (chosen_stream rule (propensities (whole_view app rule sight) sight.values) stream chosen after (rw same at chooses));
+      ticks_is = ticks_is ∙ ap (λ (ps : List ℕ). wait_of (sum ps) (next_state after)) same;
+    }
 
 -- the event would come too late
-pub event_late : (sector : Sector) (values kept : List ℕ) (stream rest total ticks after : ℕ)
-    → kept ≡ propensities sector values
-    → total ≡ sum kept
-    → 0 < total
-    → after ≡ next_state (next_state (next_state stream))
-    → ticks ≡ wait_of total after
+pub event_late : (app : Application) (rule : Rule) (sight : Sight) (stream rest after ticks : ℕ)
+    → IsTimed app rule sight stream after ticks
     → rest ≤ ticks
     → (more local : ℕ) (counts : Counts)
-    → turn_from sector (suc more) (local + rest) local (state_with values stream counts) ≡ state_with values after counts
-event_late sector values kept stream rest total ticks after kept_is total_is some after_is ticks_is late more local counts =
-    let sum_is : total ≡ sum (propensities sector values) = total_is ∙ ap sum kept_is in
-    let waits : ticks ≡ wait_of (sum (propensities sector values)) (next_state (next_state (next_state stream))) = ticks_is ∙ ap (λ n. wait_of n after) sum_is ∙ ap (wait_of (sum (propensities sector values))) after_is in
-    rw after_is (turn_late sector more (local + rest) local (state_with values stream counts) (omega (arith, some, sum_is)) (omega (arith, late, waits)))
+    → turn_from (whole_view app rule sight) (suc more) (local + rest) local (state_with sight.values stream counts) ≡ state_with sight.values (next_state after) counts
+event_late app rule sight stream rest after ticks time late more local counts =
+    let waits : wait_before (whole_view app rule sight) (state_with sight.values stream counts) ≡ ticks =
+    ap (wait_of (total (whole_view app rule sight) sight.values)) time.stream_is ∙ sym time.ticks_is in
+    turn_late (whole_view app rule sight) more (local + rest) local (state_with sight.values stream counts) time.some (omega (arith, late, waits))
+    ∙ ap (λ n. state_with sight.values n counts) time.stream_is
 
 -- the event is done
-pub event_goes : (sector : Sector) (values new kept : List ℕ) (stream rest total aimed ticks after : ℕ)
-    → kept ≡ propensities sector values
-    → total ≡ sum kept
-    → 0 < total
-    → aimed ≡ below_two_of total (next_state stream) (next_state (next_state stream))
-    → after ≡ next_state (next_state (next_state stream))
-    → ticks ≡ wait_of total after
+pub event_goes : (app : Application) (rule : Rule) (sight : Sight) (new : List ℕ) (stream rest after ticks : ℕ)
+    → IsTimed app rule sight stream after ticks
     → ticks < rest
-    → new ≡ after_event_of sector values (named weight_of aimed (all_events sector values))
+    → new ≡ after_event_of (whole_view app rule sight) sight.values (event_by rule (whole_view app rule sight) sight.values stream)
     → (more local : ℕ) (counts : Counts)
-    → turn_from sector (suc more) (local + rest) local (state_with values stream counts)
-    ≡ turn_from sector more (local + rest) (local + ticks) (state_with new after (with_accepted counts))
-event_goes sector values new kept stream rest total aimed ticks after kept_is total_is some aimed_is after_is ticks_is early new_is more local counts =
-    let sum_is : total ≡ sum (propensities sector values) = total_is ∙ ap sum kept_is in
-    let waits : ticks ≡ wait_of (sum (propensities sector values)) (next_state (next_state (next_state stream))) = ticks_is ∙ ap (λ n. wait_of n after) sum_is ∙ ap (wait_of (sum (propensities sector values))) after_is in
-    let names : aimed ≡ below_two_of (sum (propensities sector values)) (next_state stream) (next_state (next_state stream)) = aimed_is ∙ ap (λ n. below_two_of n (next_state stream) (next_state (next_state stream))) sum_is in
-    rw (new_is, names, after_is, waits) (turn_goes sector more (local + rest) local (state_with values stream counts) (omega (arith, some, sum_is)) (omega (arith, early, waits)))
+    → turn_from (whole_view app rule sight) (suc more) (local + rest) local (state_with sight.values stream counts)
+    ≡ turn_from (whole_view app rule sight) more (local + rest) (local + ticks) (state_with new (next_state after) (with_accepted counts))
+event_goes app rule sight new stream rest after ticks time early new_is more local counts =
+    let waits : wait_before (whole_view app rule sight) (state_with sight.values stream counts) ≡ ticks =
+    ap (wait_of (total (whole_view app rule sight) sight.values)) time.stream_is ∙ sym time.ticks_is in
+    turn_goes (whole_view app rule sight) more (local + rest) local (state_with sight.values stream counts) time.some (omega (arith, early, waits))
+    ∙ ap (λ t. turn_from (whole_view app rule sight) more (local + rest) (local + t) (after_event (whole_view app rule sight) (state_with sight.values stream counts))) waits
+    ∙ ap (λ n. turn_from (whole_view app rule sight) more (local + rest) (local + ticks) (state_with (after_event_of (whole_view app rule sight) sight.values (event_by rule (whole_view app rule sight) sight.values stream)) n (with_accepted counts))) time.stream_is
+    ∙ ap (λ (vs : List ℕ). turn_from (whole_view app rule sight) more (local + rest) (local + ticks) (state_with vs (next_state after) (with_accepted counts))) (sym new_is)
 
 -- an event leaves the sector of a whole view
-pub same_sector : (app : Application) (sight later : Sight) → later.near ≡ sight.near → length later.values ≡ length sight.values → whole_view app later ≡ whole_view app sight
-same_sector app sight later near all = rw (near, all) refl
+pub same_sector : (app : Application) (rule : Rule) (sight later : Sight) → later.near ≡ sight.near → length later.values ≡ length sight.values → whole_view app rule later ≡ whole_view app rule sight
+same_sector app rule sight later near all = rw (near, all) refl
 
 -- where no event is left
 pub turn_ended : (sector : Sector) (window done local : ℕ) (state : RankState) → window ≤ done → turn_from sector (window - done) window local state ≡ state

@@ -1,4 +1,3 @@
-pub mod Choice
 pub mod Reached
 pub mod Ready
 pub mod Turns

@@ -1,9 +1,11 @@
 -- What a turn needs of a view.
-use Rattle.std.specs.Prelude.{ℕ, ◌<◌, ◌≤◌, Bool, IsTrue, List, length, All}
+use Rattle.std.specs.Prelude.{ℕ, ◌<◌, ◌≤◌, Bool, IsTrue, List, map, length, All}
+use Rattle.std.specs.List.{range_with_len}
 use Rattle.spk_lattice.specs.Hops.{IsMutual, ReachesAtMost}
 use Rattle.spk_app.specs.Sights.{Sight}
-use Rattle.spk_app.specs.Applications.{Application}
-use Rattle.spk_turn.specs.Turns.{Sector, all_places, propensities}
+use Rattle.spk_app.specs.Applications.{Application, propensity}
+use Rattle.spk_solve.specs.Choice.{Rule}
+use Rattle.spk_turn.specs.Turns.{Sector, all_places}
 
 -- Neighbours are neighbours both ways and in the view, each value is valid, and so many hops lead to few places.
 pub record IsReady (app : Application) (whole : ℕ → Bool) (hops : ℕ) (sight : Sight) : Type 0 where
@@ -14,9 +16,9 @@ pub record IsReady (app : Application) (whole : ℕ → Bool) (hops : ℕ) (sigh
   pub limit : length sight.values ≤ 4194304
 
 -- all places of a view are one sector
-abbrev pub whole_view : Application → Sight → Sector
-whole_view app sight = all_places app sight.near (length sight.values)
+abbrev pub whole_view : Application → Rule → Sight → Sector
+whole_view app rule sight = all_places app rule sight.near (length sight.values)
 
 -- the propensities of all places of a view, as it is
-abbrev pub propensities_in : Application → Sight → List ℕ
-propensities_in app sight = propensities (whole_view app sight) sight.values
+unfoldable pub propensities_in : Application → Sight → List ℕ
+propensities_in app sight = map (λ place. propensity (app.events sight place)) (range_with_len 0 (length sight.values))

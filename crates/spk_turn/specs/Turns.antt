@@ -1,24 +1,26 @@
 -- A turn: events of the sites of a sector, one after another, by the kinetic Monte Carlo rule of SPPARKS's manual. The order of
 -- sites and events, the draws and the waiting times are our own rules.
-use Rattle.std.specs.Prelude.{ℕ, zero, suc, ◌+◌, ◌-◌, ◌^◌, ◌==◌, nat_le, if◌then◌else◌, min, List, map, sum, flat_map, Option, Some, None}
+use Rattle.std.specs.Prelude.{ℕ, zero, suc, ◌+◌, ◌-◌, ◌^◌, ◌==◌, nat_le, if◌then◌else◌, min, List, map, sum, flat_map, slice_index, Option, Some, None, option_and_then}
+use Rattle.std.specs.Option.{option_map_or}
 use Rattle.std.specs.List.{range_with_len}
-use Rattle.spk_num.specs.Draws.{next_state, below_two_of}
+use Rattle.spk_num.specs.Draws.{next_state}
 use Rattle.spk_num.specs.Logarithm.{wait_of}
 use Rattle.spk_app.specs.Sights.{Sight, written}
 use Rattle.spk_app.specs.Applications.{Application, Event, propensity}
-use Rattle.spk_turn.specs.Choice.{named}
+use Rattle.spk_solve.specs.Choice.{Rule, RunningSum, Bins, Choice, named, target_of, two_draws, bin_choice}
 use Rattle.spk_turn.specs.declared.counts.Counts.{Counts}
 
--- what a turn is of: an application, the places beside each place, and the places of the sites that may change, in the order of
--- their ids
+-- what a turn is of: an application, a rule by which events are chosen, the places beside each place, and the places of the
+-- sites that may change, in the order of their ids
 pub record Sector : Type 0 where
   pub application : Application
+  pub rule : Rule
   pub near : ℕ → List ℕ
   pub places : List ℕ
 
 -- all places of so many are one sector
-abbrev pub all_places : Application → (ℕ → List ℕ) → ℕ → Sector
-all_places application near count = record { application = application; near = near; places = range_with_len 0 count }
+abbrev pub all_places : Application → Rule → (ℕ → List ℕ) → ℕ → Sector
+all_places application rule near count = record { application = application; rule = rule; near = near; places = range_with_len 0 count }
 
 -- an event with the place of its site
 pub record SiteEvent : Type 0 where
@@ -61,15 +63,25 @@ pub record RankState : Type 0 where
   pub stream : ℕ
   pub counts : Counts
 
--- the draws before an event: two that choose it, and one for the time that it takes
-abbrev pub target : Sector → RankState → ℕ
-target sector state = below_two_of (total sector state.values) (next_state state.stream) (next_state (next_state state.stream))
+-- The event that a rule chooses by the draws from a stream: by the running sum, the one of all events that the target names, and
+-- by bins, the one of the chosen site's events that the rest names.
+unfoldable pub event_by : Rule → Sector → List ℕ → ℕ → Option SiteEvent
+event_by RunningSum sector values stream = named weight_of (target_of (propensities sector values) stream) (all_events sector values)
+event_by Bins sector values stream =
+    option_and_then {T = Choice} {U = SiteEvent} (λ (c : Choice). named weight_of c.rest (site_events sector values (slice_index sector.places c.place)))
+    (bin_choice (propensities sector values) stream)
 
-abbrev pub stream_after : RankState → ℕ
-stream_after state = next_state (next_state (next_state state.stream))
+-- the stream after these draws
+unfoldable pub stream_by : Rule → List ℕ → ℕ → ℕ
+stream_by RunningSum propensities stream = two_draws stream
+stream_by Bins propensities stream = option_map_or (λ (c : Choice). c.stream) (bin_choice propensities stream) stream
+
+-- one more draw is for the time that the event takes
+abbrev pub stream_after : Sector → RankState → ℕ
+stream_after sector state = next_state (stream_by sector.rule (propensities sector state.values) state.stream)
 
 abbrev pub wait_before : Sector → RankState → ℕ
-wait_before sector state = wait_of (total sector state.values) (stream_after state)
+wait_before sector state = wait_of (total sector state.values) (stream_after sector state)
 
 -- a count ends at the last value of 64 bits
 abbrev pub counts_sum : Counts → Counts → Counts
@@ -81,11 +93,11 @@ with_accepted counts = record counts { accepted = min (counts.accepted + 1) (2 ^
 abbrev pub no_counts : Counts
 no_counts = record { accepted = 0; rejected = 0 }
 
--- after the event that the target names
+-- after the event that is chosen
 abbrev pub after_event : Sector → RankState → RankState
 after_event sector state = record {
-  values = after_event_of sector state.values (named weight_of (target sector state) (all_events sector state.values));
-  stream = stream_after state;
+  values = after_event_of sector state.values (event_by sector.rule sector state.values state.stream);
+  stream = stream_after sector state;
   counts = with_accepted state.counts;
 }
 
@@ -95,7 +107,7 @@ unfoldable pub turn_from : Sector → ℕ → ℕ → ℕ → RankState → Rank
 turn_from sector zero window local state = state
 turn_from sector (suc more) window local state =
     if total sector state.values == 0 then state
-    else (if nat_le window (local + wait_before sector state) then record state { stream = stream_after state }
+    else (if nat_le window (local + wait_before sector state) then record state { stream = stream_after sector state }
     else turn_from sector more window (local + wait_before sector state) (after_event sector state))
 
 -- a turn with a window of so many ticks: each event takes one at least, so no more of them are done

@@ -2,7 +2,7 @@
 
 ghost use Rattle.std.specs.Prelude.{◌≡◌, ◌<◌, ◌≤◌, Some, option_map};
 ghost use Rattle.spk_app.specs.Applications.{Event, HasMark, listed, propensity};
-ghost use Rattle.spk_turn.specs.Choice.{named};
+ghost use Rattle.spk_solve.specs.Choice.{named};
 
 use spk_app::Events;
 

@@ -1,6 +1,6 @@
 use Rattle.std.proofs.Common.{◌≡◌, ◌≤◌, ◌*◌, ◌^◌, drop, take}
 use Rattle.spk_app.specs.Applications.{Event, listed, propensity}
-use Rattle.spk_turn.specs.Choice.{named, named_from}
+use Rattle.spk_solve.specs.Choice.{named, named_from}
 use Rattle.spk_turn.proofs.mark.mark_of.Given as goal
 
 abbrev pub invariant-weights : goal.invariant-weights

@@ -2,7 +2,7 @@ use Rattle.std.proofs.Common.{sym, ap, ◌∙◌, length}
 use Rattle.spk_app.specs.Sights.{Sight}
 use Rattle.spk_turn.proofs.Anew.{length-propensities}
 use Rattle.spk_turn.proofs.Events.{all_seen, still_ready, same_length, far_stays}
-use Rattle.spk_turn.proofs.Levels.{after_named}
+use Rattle.spk_turn.proofs.Levels.{after_chosen}
 use Rattle.spk_turn.proofs.turn.act.Goals as goal
 
 pub events-events-requires-clause-seen : goal.events-events-requires-clause-seen
@@ -28,9 +28,9 @@ refresh-requires-clause-stale g c =
     (rw c.events-events.ensures.events at c.mark_of-mark.ensures.has) c.apply.ensures.sight c.requires.afresh
 
 pub returns-clause-values : goal.returns-clause-values
-returns-clause-values g c = λ target names.
+returns-clause-values g c = λ stream after chooses.
     ap (λ (s : Sight). s.values) c.apply.ensures.sight
-    ∙ after_named _ _ target c.args.chosen.place c.args.chosen.rest c.mark_of-mark.result (rw c.requires.afresh at names) c.requires.rest
+    ∙ after_chosen (g.A.App.rules c.args.app.now) g.S.Solver.rule (g.V.View.sight c.args.view.now) stream after c.mark_of-mark.result c.args.chosen (rw c.requires.afresh at chooses) c.requires.place c.requires.rest
     (rw c.events-events.ensures.events at c.mark_of-mark.ensures.named)
 
 pub returns-clause-all : goal.returns-clause-all

@@ -1,35 +1,35 @@
-use Rattle.std.proofs.Common.{◌∙◌, ◌<◌, sym, ap, arith, length, List, ℕ}
+use Rattle.std.proofs.Common.{◌∙◌, ◌<◌, sym, ap, arith, length, sum, List, ℕ}
 use Rattle.std.specs.Prelude.{slice_index}
-use Rattle.spk_num.specs.Draws.{next_state, below_two_of}
 use Rattle.spk_num.specs.Logarithm.{wait_of}
 use Rattle.spk_turn.proofs.Anew.{length-propensities, propensity_at}
-use Rattle.spk_turn.proofs.Steps.{event_none, event_late, event_goes}
+use Rattle.spk_turn.proofs.Steps.{event_none, event_late, event_goes, timed}
 use Rattle.spk_turn.proofs.turn.event.Goals as goal
 
-pub returns-then-total-eq0-clause-ends : goal.returns-then-total-eq0-clause-ends
-returns-then-total-eq0-clause-ends g c = event_none _ _ _ _ _ c.total-total.result c.requires.afresh c.total-total.ensures.total c.if-total-eq0.true
+pub returns-in_default-clause-ends : goal.returns-in_default-clause-ends
+returns-in_default-clause-ends g c =
+    rw c.in_default.ensures.still (event_none (g.A.App.rules c.args.app.now) g.S.Solver.rule (g.V.View.sight c.args.view.now) _ c.args.stream.now c.args.rest c.requires.afresh c.in_default.ensures.none)
 
 pub returns-then-ticks-rest-clause-ends : goal.returns-then-ticks-rest-clause-ends
 returns-then-ticks-rest-clause-ends g c =
-    event_late _ _ _ _ _ c.total-total.result c.wait-ticks.result c.next.new.self c.requires.afresh c.total-total.ensures.total (omega (arith, c.if-total-eq0.false))
-    (c.next.ensures.state ∙ ap next_state c.below_two-target.ensures.state)
-    (c.wait-ticks.ensures.ticks ∙ ap (wait_of c.total-total.result) (c.next.ensures.draw ∙ sym c.next.ensures.state)) c.if-ticks-rest.true
+    let ticks = c.wait-ticks.ensures.ticks ∙ ap (λ n. wait_of n c.next.result) c.total-total.ensures.total ∙ ap (wait_of (sum (g.S.Solver.list c.args.solver.now))) c.next.ensures.draw in
+    rw c.next.ensures.state (event_late (g.A.App.rules c.args.app.now) g.S.Solver.rule (g.V.View.sight c.args.view.now) c.args.stream.now c.args.rest c.choose.new.stream c.wait-ticks.result
+    (timed (g.A.App.rules c.args.app.now) g.S.Solver.rule (g.V.View.sight c.args.view.now) _ c.args.stream.now c.choose.new.stream c.wait-ticks.result c.in-Some.chosen c.requires.afresh c.in-Some.ensures.some c.in-Some.ensures.chosen ticks)
+    c.if-ticks-rest.true)
 
 pub act-requires-clause-place : goal.act-requires-clause-place
-act-requires-clause-place g c = omega (arith, c.choose.ensures.within, ap length c.requires.afresh, length-propensities (g.A.App.rules c.args.app.now) (g.V.View.sight c.args.view.now))
+act-requires-clause-place g c = omega (arith, c.in-Some.ensures.place, ap length c.requires.afresh, length-propensities (g.A.App.rules c.args.app.now) (g.V.View.sight c.args.view.now))
 
 pub act-requires-clause-rest : goal.act-requires-clause-rest
 act-requires-clause-rest g c =
-    let inside : c.choose.result.place < length (g.V.View.sight c.args.view.now).values =
-    omega (arith, c.choose.ensures.within, ap length c.requires.afresh, length-propensities (g.A.App.rules c.args.app.now) (g.V.View.sight c.args.view.now)) in
-    let there = ap (λ (xs : List ℕ). slice_index xs c.choose.result.place) c.requires.afresh
-    ∙ propensity_at (g.A.App.rules c.args.app.now) (g.V.View.sight c.args.view.now) c.choose.result.place inside in
-    rw there at c.choose.ensures.left
+    let inside : c.in-Some.chosen.place < length (g.V.View.sight c.args.view.now).values =
+    omega (arith, c.in-Some.ensures.place, ap length c.requires.afresh, length-propensities (g.A.App.rules c.args.app.now) (g.V.View.sight c.args.view.now)) in
+    let there = ap (λ (xs : List ℕ). slice_index xs c.in-Some.chosen.place) c.requires.afresh
+    ∙ propensity_at (g.A.App.rules c.args.app.now) (g.V.View.sight c.args.view.now) c.in-Some.chosen.place inside in
+    rw there at c.in-Some.ensures.rest
 
 pub returns-clause-goes : goal.returns-clause-goes
 returns-clause-goes g c =
-    event_goes _ _ _ _ _ c.args.rest c.total-total.result c.below_two-target.result c.wait-ticks.result c.next.new.self c.requires.afresh c.total-total.ensures.total (omega (arith, c.if-total-eq0.false))
-    (c.below_two-target.ensures.number ∙ ap (below_two_of c.total-total.result (next_state c.args.stream.now)) c.below_two-target.ensures.state)
-    (c.next.ensures.state ∙ ap next_state c.below_two-target.ensures.state)
-    (c.wait-ticks.ensures.ticks ∙ ap (wait_of c.total-total.result) (c.next.ensures.draw ∙ sym c.next.ensures.state)) c.if-ticks-rest.false
-    (c.act.ensures.values c.below_two-target.result c.choose.ensures)
+    let ticks = c.wait-ticks.ensures.ticks ∙ ap (λ n. wait_of n c.next.result) c.total-total.ensures.total ∙ ap (wait_of (sum (g.S.Solver.list c.args.solver.now))) c.next.ensures.draw in
+    rw c.next.ensures.state (event_goes (g.A.App.rules c.args.app.now) g.S.Solver.rule (g.V.View.sight c.args.view.now) _ c.args.stream.now c.args.rest c.choose.new.stream c.wait-ticks.result
+    (timed (g.A.App.rules c.args.app.now) g.S.Solver.rule (g.V.View.sight c.args.view.now) _ c.args.stream.now c.choose.new.stream c.wait-ticks.result c.in-Some.chosen c.requires.afresh c.in-Some.ensures.some c.in-Some.ensures.chosen ticks)
+    c.if-ticks-rest.false (c.act.ensures.values c.args.stream.now c.choose.new.stream (rw (sym c.choose.ensures.list) at c.in-Some.ensures.chosen)))

@@ -6,12 +6,13 @@ use Rattle.spk_turn.proofs.turn.turn.Given as goal
 
 abbrev pub invariant-events : goal.invariant-events
 invariant-events g l = record {
-  state : turn_from (whole_view (g.A.App.rules l.app) (g.V.View.sight l.fn.view)) (l.window - l.counter) l.window l.local (state_with (g.V.View.sight l.view).values l.stream l.counts)
-      ≡ turn_of (whole_view (g.A.App.rules l.app) (g.V.View.sight l.fn.view)) l.window (state_with (g.V.View.sight l.fn.view).values l.fn.stream l.fn.counts);
+  state : turn_from (whole_view (g.A.App.rules l.app) g.S.Solver.rule (g.V.View.sight l.fn.view)) (l.window - l.counter) l.window l.local (state_with (g.V.View.sight l.view).values l.stream l.counts)
+      ≡ turn_of (whole_view (g.A.App.rules l.app) g.S.Solver.rule (g.V.View.sight l.fn.view)) l.window (state_with (g.V.View.sight l.fn.view).values l.fn.stream l.fn.counts);
   within : l.local ≤ l.window;
   near : (g.V.View.sight l.view).near ≡ (g.V.View.sight l.fn.view).near;
   all : length (g.V.View.sight l.view).values ≡ length (g.V.View.sight l.fn.view).values;
   frame : g.V.View.frame l.view ≡ g.V.View.frame l.fn.view;
   ready : IsReady (g.A.App.rules l.app) (g.V.View.whole l.view) (g.A.App.PROP + g.A.App.STEP) (g.V.View.sight l.view);
-  afresh : l.kept ≡ propensities_in (g.A.App.rules l.app) (g.V.View.sight l.view);
+  afresh : g.S.Solver.list l.solver ≡ propensities_in (g.A.App.rules l.app) (g.V.View.sight l.view);
+  capacity : g.S.Solver.capacity l.solver ≡ g.S.Solver.capacity l.fn.solver;
 }
