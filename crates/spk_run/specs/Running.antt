@@ -14,10 +14,10 @@ use Rattle.spk_run.specs.Runs.{job, mark_text, run_texts}
 use Rattle.spk_run.specs.Output.{prints_all}
 use Rattle.spk_run.specs.Telling.{GoesOnTelling}
 
--- there is room for a line, and for the propensities of a box
+-- there is room for a line, and for the propensities of the sites of a box
 pub record HasRoomFor (domain : Domain) (room : RunRoom) : Type 0 where
   pub line : 128 ≤ vec_capacity room.line
-  pub kept : length room.kept ≡ sites_of domain.lattice
+  pub solver : sites_of domain.lattice ≤ room.solver.room
 
 -- an application can run on a box: each site has a value, which is valid, and there is room
 pub record IsRunnable (application : Application) (domain : Domain) (room : RunRoom) : Type 0 where

@@ -1,6 +1,6 @@
 //! The sites of a rank, between its turns.
 
-ghost use Rattle.std.specs.Prelude.{◌≡◌, ◌+◌, ◌<◌, length, All, IfOk, IsTrue};
+ghost use Rattle.std.specs.Prelude.{◌≡◌, ◌+◌, ◌<◌, ◌≤◌, length, All, IfOk, IsTrue};
 ghost use Rattle.spk_lattice.specs.Layout.{sites_of};
 ghost use Rattle.spk_turn.specs.Turns.{no_counts, turn_of};
 ghost use Rattle.spk_run.specs.Ranks.{state_of, whole_lattice, IsKept};
@@ -8,41 +8,42 @@ ghost use Rattle.spk_run.specs.Ranks.{state_of, whole_lattice, IsKept};
 use spk_app::{App, PlainView, Steps};
 use spk_lattice::Lattice;
 use spk_num::stream::Stream;
+use spk_solve::Linear;
 use spk_turn::turn::turn;
-use spk_turn::{Counts, Propensities, fill};
+use spk_turn::{Counts, fill};
 use std::sync::ledger::Ledger;
 
-/// The sites of a rank with their propensities, the stream from which it draws, and its events since the run's start.
+/// The sites of a rank, the solver that keeps their propensities, the stream from which it draws, and its events since the run's start.
 #[derive(Debug, Drop)]
 pub struct Rank {
     pub view: PlainView,
-    pub kept: Propensities,
+    pub solver: Linear,
     pub stream: Stream,
     pub counts: Counts,
 }
 
 impl Rank {
-    /// A rank of all sites of a lattice, before its first turn. There is room for as many propensities as sites.
+    /// A rank of all sites of a lattice, before its first turn. The solver has room for the propensities of all of them.
     pub fn new<A: App, L: Ledger>(
         app: &A,
         lattice: &Lattice,
         values: Vec<u32>,
         stream: Stream,
-        mut kept: Propensities,
+        mut solver: Linear,
         steps: &mut Steps<L>,
     ) -> Rank
         requires fits { length values.items ≡ sites_of lattice.now }
         requires valid { All (λ v. IsTrue ((A.rules app.now).is_valid v)) values.items }
-        requires room { length kept ≡ sites_of lattice.now }
+        requires room { sites_of lattice.now ≤ solver.room }
         ensures state { state_of result ≡ record { values = values.items; stream = stream; counts = no_counts } }
         ensures kept { IsKept (A.rules app.now) (A.PROP + A.STEP) lattice.now result }
     {
         lattice.known();
         let view = PlainView::new(lattice, values);
-        fill(&view, app, &mut kept, steps);
+        fill(&view, app, &mut solver, lattice.sites() as usize, steps);
         Rank {
             view,
-            kept,
+            solver,
             stream,
             counts: Counts::none(),
         }
@@ -63,7 +64,7 @@ impl Rank {
         turn(
             &mut self.view,
             app,
-            &mut self.kept,
+            &mut self.solver,
             &mut self.stream,
             &mut self.counts,
             window,
@@ -107,11 +108,12 @@ mod tests {
         lattice: &Lattice,
         app: &A,
         values: Vec<u32>,
-        kept: Propensities,
+        solver: Linear,
         stream: Stream,
         window: u64,
         blank: Blank,
     ) -> Rank
+        requires room { sites_of lattice.now ≤ solver.room }
         requires name { blank.name ≡ L.name }
         requires parts { blank.parts ≡ L.parts }
         requires some { 0 < blank.parts }
@@ -119,8 +121,7 @@ mod tests {
     {
         let mut steps = Steps::<L>::new(blank);
         assert!(rt; values.len() == lattice.sites() as usize);
-        assert!(rt; kept.len() == lattice.sites() as usize);
-        let mut rank = Rank::new(app, lattice, values, stream, kept, &mut steps);
+        let mut rank = Rank::new(app, lattice, values, stream, solver, &mut steps);
         rank.turn(app, lattice, window, &mut steps);
         rank
     }
@@ -145,10 +146,10 @@ mod tests {
                 let _draw = stream.next();
             }
             let values = values_of(&rt, rt.alloc(), &app, drawn)?;
-            let kept = Propensities::zeros(rt.alloc(), lattice.sites())?;
+            let solver = Linear::new(rt.alloc(), lattice.sites() as usize)?;
             let blank = Blank::new(1);
             let rank = turned::<Ising, Brand>(
-                &rt, &lattice, &app, values, kept, stream, window, blank,
+                &rt, &lattice, &app, values, solver, stream, window, blank,
             );
             assert_eq!(rt; rank.stream.state(), state);
             assert_eq!(rt; rank.counts.accepted, accepted);

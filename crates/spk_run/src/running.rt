@@ -24,7 +24,8 @@ use crate::teller::Teller;
 use crate::values::Values;
 use spk_app::{App, Steps};
 use spk_lattice::Lattice;
-use spk_turn::{Counts, Propensities};
+use spk_solve::Linear;
+use spk_turn::Counts;
 use spk_world::World;
 use std::alloc::{AllocError, Global};
 use std::sync::ledger::Ledger;
@@ -35,8 +36,7 @@ pub struct RunRoom {
     pub output: Output,
     /// A line of statistics.
     pub line: Vec<u8>,
-    /// As many propensities as sites.
-    pub kept: Propensities,
+    pub solver: Linear,
 }
 
 /// A run of a box with its state so far.
@@ -70,7 +70,7 @@ impl RunRoom {
         Ok(RunRoom {
             output,
             line: Vec::with_capacity(alloc, LINE_ROOM)?,
-            kept: Propensities::zeros(alloc, domain.lattice.sites())?,
+            solver: Linear::new(alloc, domain.lattice.sites() as usize)?,
         })
     }
 }
@@ -98,9 +98,13 @@ impl Running {
             counts,
             sweeps,
         } = domain;
-        let RunRoom { output, line, kept } = room;
+        let RunRoom {
+            output,
+            line,
+            solver,
+        } = room;
         let stream = streams.first();
-        let rank = Rank::new(app, &lattice, values.into_vec(), stream, kept, steps);
+        let rank = Rank::new(app, &lattice, values.into_vec(), stream, solver, steps);
         Running {
             lattice,
             time,

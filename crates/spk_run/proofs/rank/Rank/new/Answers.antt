@@ -14,5 +14,5 @@ returns-clause-kept g c = record {
   fits = rw c.new-view.ensures c.requires.fits;
   ready = rw c.new-view.ensures
       (plain_ready (g.A.App.rules c.args.app.now) (g.A.App.PROP + g.A.App.STEP) (record { lattice = c.args.lattice.now; values = c.args.values.items }) c.known.ensures c.requires.fits c.requires.valid (g.met.A.App.narrow).few);
-  afresh = c.fill.ensures;
+  afresh = c.fill.ensures.afresh;
 }
