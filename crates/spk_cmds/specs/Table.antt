@@ -8,14 +8,15 @@ use Rattle.spk_num.specs.declared.style.Style.TheVariants.{Line2, Sq4, Sq8, Tri,
 use Rattle.spk_cmds.specs.declared.options.Echo.TheVariants as echo
 use Rattle.spk_cmds.specs.declared.command.AppStyle.{AppStyle}
 use Rattle.spk_cmds.specs.declared.command.AppStyle.TheVariants.{Ising, IsingSingle}
-use Rattle.spk_cmds.specs.declared.command.SolveStyle.TheVariants.{Linear}
+use Rattle.spk_cmds.specs.declared.command.SolveStyle.{SolveStyle}
+use Rattle.spk_cmds.specs.declared.command.SolveStyle.TheVariants.{Linear, Tree, Group}
 use Rattle.spk_cmds.specs.declared.command.Command.{Command}
 use Rattle.spk_cmds.specs.declared.command.CommandFault.{CommandFault}
 use Rattle.spk_cmds.specs.declared.command.CommandFault.TheVariants.{UnknownCommand, UnknownStyle, WrongCount, NotBuilt}
 use Rattle.spk_cmds.specs.declared.form.Maker.{Maker}
 use Rattle.spk_cmds.specs.declared.form.Maker.TheVariants as maker
 use Rattle.spk_cmds.specs.Kinds.{Kind, OneOf, WholeNumber, WholeUpToNext, DecimalNumber, BoundNumber, NameWord, AnyWord, is_among}
-use Rattle.spk_cmds.specs.Forms.{Form, Keyword, Tail, NoTail, Pairs, Counted, form_read}
+use Rattle.spk_cmds.specs.Forms.{Form, Keyword, Tail, NoTail, Pairs, Optional, Counted, form_read}
 use Rattle.spk_cmds.specs.Makers.{made}
 
 -- a form with its deciding word
@@ -75,6 +76,13 @@ potts maker = words_alone maker (AnyWord ∷ WholeNumber 1 1000000 ∷ [])
 
 abbrev pub diffusion : Form
 diffusion = words_alone maker.Diffusion (AnyWord ∷ OneOf (codes "off" ∷ codes "linear" ∷ []) [] ∷ OneOf (codes "hop" ∷ []) [] ∷ [])
+
+abbrev pub solver : SolveStyle → Tail → Form
+solver style tail = record { maker = maker.Solve style; kinds = AnyWord ∷ []; tail = tail }
+
+-- a bound of the propensities, which isn't used
+abbrev pub any_decimal : Kind
+any_decimal = DecimalNumber (neg_ℤ (pos 1000000000000000000)) (pos 1000000000000000000)
 
 abbrev pub periodic : Kind
 periodic = OneOf (codes "p" ∷ []) (codes "n" ∷ [])
@@ -149,6 +157,13 @@ apps =
     ∷ styled (codes "diffusion") diffusion
     ∷ []
 
+abbrev pub solvers : List Styled
+solvers =
+    styled (codes "linear") (solver Linear NoTail)
+    ∷ styled (codes "tree") (solver Tree NoTail)
+    ∷ styled (codes "group") (solver Group (Optional (any_decimal ∷ any_decimal ∷ [])))
+    ∷ []
+
 abbrev pub lattices : List Styled
 lattices =
     styled (codes "line/2n") (lattice Line2)
@@ -194,7 +209,7 @@ table =
     ∷ unbuilt (codes "write_restart")
     ∷ unbuilt (codes "read_restart")
     ∷ unbuilt (codes "sector")
-    ∷ several (codes "solve_style") 0 (styled (codes "linear") (words_alone (maker.Solve Linear) (AnyWord ∷ [])) ∷ []) (codes "tree" ∷ codes "group" ∷ [])
+    ∷ several (codes "solve_style") 0 solvers []
     ∷ unbuilt (codes "sweep")
     ∷ one (codes "temperature") (words_alone maker.Temperature (DecimalNumber (pos 0) (pos 1000000000000) ∷ []))
     ∷ one (codes "stats") (words_alone maker.Stats (DecimalNumber (pos 0) (pos 1000000000000000) ∷ []))

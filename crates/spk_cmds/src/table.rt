@@ -348,15 +348,42 @@ const ROWS: &[Row] = &[
         name: "solve_style",
         forms: Forms::Several(
             0,
-            &[Styled {
-                word: "linear",
-                form: Form {
-                    maker: Maker::Solve(SolveStyle::Linear),
-                    kinds: &[Kind::AnyWord],
-                    tail: Tail::NoTail,
+            &[
+                Styled {
+                    word: "linear",
+                    form: Form {
+                        maker: Maker::Solve(SolveStyle::Linear),
+                        kinds: &[Kind::AnyWord],
+                        tail: Tail::NoTail,
+                    },
                 },
-            }],
-            &["tree", "group"],
+                Styled {
+                    word: "tree",
+                    form: Form {
+                        maker: Maker::Solve(SolveStyle::Tree),
+                        kinds: &[Kind::AnyWord],
+                        tail: Tail::NoTail,
+                    },
+                },
+                Styled {
+                    word: "group",
+                    form: Form {
+                        maker: Maker::Solve(SolveStyle::Group),
+                        kinds: &[Kind::AnyWord],
+                        tail: Tail::Optional(&[
+                            Kind::DecimalNumber(
+                                -1_000_000_000_000_000_000,
+                                1_000_000_000_000_000_000,
+                            ),
+                            Kind::DecimalNumber(
+                                -1_000_000_000_000_000_000,
+                                1_000_000_000_000_000_000,
+                            ),
+                        ]),
+                    },
+                },
+            ],
+            &[],
         ),
     },
     Row {

@@ -221,7 +221,7 @@ fn makes_commands(rt: HostRuntime) -> Result<(), Fail> {
         ("temperature 0.5", "temperature 500000"),
         ("echo both", "echo Both"),
         ("", "UnknownCommand "),
-        ("solve_style tree x", "NotBuilt tree"),
+        ("solve_style group 1 x", "BadNumber x"),
     ] {
         let text = outcome_text(rt.alloc(), line)?;
         assert_eq!(rt; text.as_str(), wanted, "at {line}");
