@@ -7,6 +7,7 @@ use Rattle.spk_run.specs.declared.run_settings.RunSettings.{RunSettings}
 use Rattle.spk_app.specs.Applications.{Application}
 use Rattle.spk_turn.specs.Turns.{RankState, no_counts, counts_sum, turn_of}
 use Rattle.spk_run.specs.Ranks.{whole_lattice}
+use Rattle.spk_run.specs.Solvers.{rule_of}
 use Rattle.spk_run.specs.Plans.{elapsed, window, steps, cycles}
 use Rattle.spk_run.specs.Globals.{GlobalState, global_state}
 use Rattle.spk_run.specs.Statistics.{statistics_text}
@@ -33,7 +34,7 @@ first_place each step sectors is = rw is (let none : step % 1 ≡ 0 = mod-one st
 -- after one step more
 pub one_rank_step : (application : Application) (settings : RunSettings) (domain : Domain) (done : ℕ) (state : RankState) → settings.sectors ≡ 1 → 0 < length domain.streams →
     global_state (job application settings domain) done ≡ of_one_rank domain state →
-    global_state (job application settings domain) (done + 1) ≡ of_one_rank domain (turn_of (whole_lattice application domain.lattice) (window settings done) state)
+    global_state (job application settings domain) (done + 1) ≡ of_one_rank domain (turn_of (whole_lattice application (rule_of settings.solver) domain.lattice) (window settings done) state)
 unfolding global_state
 one_rank_step application settings domain done state one some is =
     rw (add-one done) (rw is (rw (first_place (sectors_of domain) done settings.sectors one, get_or-set_same domain.streams 0 state.stream 0 some) (rw set_again refl)))

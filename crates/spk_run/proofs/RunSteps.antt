@@ -16,6 +16,7 @@ use Rattle.spk_run.specs.Statistics.{header_text, statistics_text}
 use Rattle.spk_run.specs.Output.{prints, prints_all}
 use Rattle.spk_run.specs.Endings.{target_stop}
 use Rattle.spk_run.specs.Runs.{mark_text, run_texts, domain_after}
+use Rattle.spk_run.specs.Solvers.{rule_of, style_of}
 use Rattle.spk_run.specs.Running.{KeepsBox, HasDone}
 use Rattle.spk_run.specs.Telling.{GoesOnAfter, GoesOnTelling}
 use Rattle.spk_run.proofs.Outputs.{prints_none, prints_more}
@@ -24,12 +25,14 @@ use Rattle.spk_run.proofs.Ranks.{of_one_rank, one_rank_step, mark_text_is, domai
 
 -- after a turn
 pub has_turned : (application : Application) (settings : RunSettings) (domain : Domain) (done ticks : ℕ) (old new : Running) → settings.sectors ≡ 1 → ticks ≡ window settings done →
-    HasDone application settings domain done old → KeepsBox domain new → state_of new.rank ≡ turn_of (whole_lattice application old.lattice) ticks (state_of old.rank) →
+    HasDone application settings domain done old → KeepsBox domain new → style_of new.rank.solver ≡ style_of old.rank.solver →
+    state_of new.rank ≡ turn_of (whole_lattice application (rule_of (style_of old.rank.solver)) old.lattice) ticks (state_of old.rank) →
     HasDone application settings domain (done + 1) new
-has_turned application settings domain done ticks old new one window_is has keeps state = record {
+has_turned application settings domain done ticks old new one window_is has keeps solver state = record {
   keeps = keeps;
+  solver = solver ∙ has.solver;
   state = one_rank_step application settings domain done (state_of old.rank) one has.keeps.some_stream has.state
-      ∙ ap (of_one_rank domain) (sym (rw (window_is, has.keeps.lattice) at state));
+      ∙ ap (of_one_rank domain) (sym (rw (window_is, has.keeps.lattice, has.solver) at state));
 }
 
 -- the text of a mark by what the run holds
@@ -60,6 +63,7 @@ pub has_done_telling : (application : Application) (settings : RunSettings) (dom
     HasDone application settings domain done (record running { teller = teller })
 has_done_telling application settings domain done running teller has = record {
   keeps = record { lattice = has.keeps.lattice; time = has.keeps.time; streams = has.keeps.streams; counts = has.keeps.counts; sweeps = has.keeps.sweeps; some_stream = has.keeps.some_stream; line = has.keeps.line };
+  solver = has.solver;
   state = has.state;
 }
 

@@ -14,6 +14,7 @@ pub mod Ranks
 pub mod Running
 pub mod Runs
 pub mod Scripts
+pub mod Solvers
 pub mod States
 pub mod Statistics
 pub mod Streams

@@ -6,12 +6,14 @@ use Rattle.spk_run.specs.declared.commands.run.Prepared.{Prepared}
 use Rattle.spk_run.specs.declared.state.SessionState.{SessionState}
 use Rattle.spk_run.specs.Applications.{rules_of}
 use Rattle.spk_run.specs.Running.{HasRoomFor}
+use Rattle.spk_run.specs.Solvers.{style_of}
 use Rattle.spk_run.specs.Commands.Run.{application_on, settings_of}
 
 pub record IsFor (state : SessionState) (run : ℕ) (style : AppStyle) (domain : Domain) (prepared : Prepared) : Type 0 where
   pub application : rules_of prepared.application ≡ application_on state style domain
   pub plan : prepared.plan ≡ settings_of state run (application_on state style domain) domain
   pub room_for : HasRoomFor domain prepared.room
+  pub solver : style_of prepared.room.solver ≡ prepared.plan.solver
   pub log : prepared.room.output.log ≡ state.log
 
 abbrev pub IsPreparedFor : SessionState → ℕ → Option AppStyle → Option Domain → Option Prepared → Type 0

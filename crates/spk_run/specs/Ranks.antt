@@ -3,14 +3,15 @@ use Rattle.std.specs.Prelude.{◌≡◌, ℕ, true, length}
 use Rattle.spk_lattice.specs.Layout.{Layout, sites_of}
 use Rattle.spk_app.specs.Applications.{Application}
 use Rattle.spk_app.specs.PlainViews.{places_beside, sight_of}
-use Rattle.spk_solve.specs.Choice.{RunningSum}
+use Rattle.spk_solve.specs.Choice.{Rule}
 use Rattle.spk_turn.specs.Turns.{Sector, RankState, all_places}
 use Rattle.spk_turn.specs.Ready.{IsReady, propensities_in}
 use Rattle.spk_run.specs.declared.rank.Rank.{Rank}
+use Rattle.spk_run.specs.Solvers.{list_of}
 
 -- all sites of a lattice are one sector
-abbrev pub whole_lattice : Application → Layout → Sector
-whole_lattice application lattice = all_places application RunningSum (places_beside lattice) (sites_of lattice)
+abbrev pub whole_lattice : Application → Rule → Layout → Sector
+whole_lattice application rule lattice = all_places application rule (places_beside lattice) (sites_of lattice)
 
 abbrev pub state_of : Rank → RankState
 state_of rank = record { values = rank.view.values; stream = rank.stream; counts = rank.counts }
@@ -20,4 +21,4 @@ pub record IsKept (application : Application) (hops : ℕ) (lattice : Layout) (r
   pub on : rank.view.lattice ≡ lattice
   pub fits : length rank.view.values ≡ sites_of rank.view.lattice
   pub ready : IsReady application (λ _. true) hops (sight_of rank.view)
-  pub afresh : rank.solver.list ≡ propensities_in application (sight_of rank.view)
+  pub afresh : list_of rank.solver ≡ propensities_in application (sight_of rank.view)

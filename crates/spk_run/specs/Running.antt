@@ -12,12 +12,13 @@ use Rattle.spk_run.specs.Globals.{global_state}
 use Rattle.spk_run.specs.Ranks.{IsKept}
 use Rattle.spk_run.specs.Runs.{job, mark_text, run_texts}
 use Rattle.spk_run.specs.Output.{prints_all}
+use Rattle.spk_run.specs.Solvers.{style_of, room_of}
 use Rattle.spk_run.specs.Telling.{GoesOnTelling}
 
 -- there is room for a line, and for the propensities of the sites of a box
 pub record HasRoomFor (domain : Domain) (room : RunRoom) : Type 0 where
   pub line : 128 ≤ vec_capacity room.line
-  pub solver : sites_of domain.lattice ≤ room.solver.room
+  pub solver : sites_of domain.lattice ≤ room_of room.solver
 
 -- an application can run on a box: each site has a value, which is valid, and there is room
 pub record IsRunnable (application : Application) (domain : Domain) (room : RunRoom) : Type 0 where
@@ -42,6 +43,7 @@ pub record KeepsBox (domain : Domain) (running : Running) : Type 0 where
 
 pub record HasDone (application : Application) (settings : RunSettings) (domain : Domain) (done : ℕ) (running : Running) : Type 0 where
   pub keeps : KeepsBox domain running
+  pub solver : style_of running.rank.solver ≡ settings.solver
   pub state : global_state (job application settings domain) done
       ≡ record { values = running.rank.view.values; streams = slice_set domain.streams 0 running.rank.stream; counts = running.rank.counts ∷ [] }
 

@@ -8,6 +8,7 @@ use Rattle.spk_run.specs.declared.statistics.StatsLine.{StatsLine}
 use Rattle.spk_app.specs.Applications.{Application}
 use Rattle.spk_turn.specs.Turns.{counts_sum}
 use Rattle.spk_run.specs.Ranks.{whole_lattice}
+use Rattle.spk_run.specs.Solvers.{rule_of}
 use Rattle.spk_run.specs.Plans.{elapsed, marks, steps}
 use Rattle.spk_run.specs.Globals.{GlobalState, Job, global_state, all_counts}
 use Rattle.spk_run.specs.Statistics.{header_text, statistics_text}
@@ -20,7 +21,7 @@ sectors_of domain = 2 ^ dimensions_of domain.lattice.style
 -- a run on one rank
 abbrev pub job : Application → RunSettings → Domain → Job
 job application settings domain = record {
-  sector = λ rank sector. whole_lattice application domain.lattice;
+  sector = λ rank sector. whole_lattice application (rule_of settings.solver) domain.lattice;
   ranks = 1;
   streams_each = sectors_of domain;
   settings = settings;

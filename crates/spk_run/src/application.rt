@@ -6,6 +6,7 @@ ghost use Rattle.spk_run.specs.Applications.{application_of, rules_of};
 ghost use Rattle.spk_run.specs.Output.{prints_all};
 ghost use Rattle.spk_run.specs.Runs.{run_texts, domain_after};
 ghost use Rattle.spk_run.specs.Running.{IsRunnable};
+ghost use Rattle.spk_run.specs.Solvers.{style_of};
 ghost use Rattle.spk_run.specs.Endings.{target_stop};
 
 use crate::domain::Domain;
@@ -83,6 +84,7 @@ impl AnyApplication {
     ) -> Finished
         requires one_sector { plan.now.sectors ≡ 1 }
         requires runnable { IsRunnable (rules_of self) domain room }
+        requires solver { style_of room.solver ≡ plan.now.solver }
         requires fits { domain.time + plan.now.length < 2 ^ 64 }
         ensures domain { result.domain ≡ domain_after (rules_of self) plan.now domain }
         ensures wrote { Wrote target_stop (W.state world.old) (W.state world.new) (prints_all room.output.log (run_texts (rules_of self) plan.now domain)) result.written }

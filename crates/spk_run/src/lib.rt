@@ -19,6 +19,7 @@ mod script;
 mod seed;
 mod session;
 mod simulate;
+mod solver;
 mod state;
 mod statistics;
 mod streams;

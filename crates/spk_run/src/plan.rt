@@ -128,6 +128,7 @@ impl Plan {
 #[cfg(test)]
 mod tests {
     use super::*;
+    use spk_cmds::SolveStyle;
 
     /// A run of 2.25 units from the start, with four sectors and cycles of half a unit, which `nstop` asks for.
     fn by_events(stats: u64) -> RunSettings
@@ -139,6 +140,7 @@ mod tests {
             cycle: Cycle::Nstop(500_000),
             largest: 1 << 30,
             sectors: 4,
+            solver: SolveStyle::Linear,
             sweep: None,
             stats,
         }
@@ -154,6 +156,7 @@ mod tests {
             cycle: Cycle::Ticks(500_000_000),
             largest: 1 << 30,
             sectors: 4,
+            solver: SolveStyle::Linear,
             sweep: None,
             stats,
         }

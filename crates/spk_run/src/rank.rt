@@ -4,20 +4,20 @@ ghost use Rattle.std.specs.Prelude.{◌≡◌, ◌+◌, ◌<◌, ◌≤◌, leng
 ghost use Rattle.spk_lattice.specs.Layout.{sites_of};
 ghost use Rattle.spk_turn.specs.Turns.{no_counts, turn_of};
 ghost use Rattle.spk_run.specs.Ranks.{state_of, whole_lattice, IsKept};
+ghost use Rattle.spk_run.specs.Solvers.{rule_of, style_of, room_of};
 
+use crate::solver::AnySolver;
 use spk_app::{App, PlainView, Steps};
 use spk_lattice::Lattice;
 use spk_num::stream::Stream;
-use spk_solve::Linear;
-use spk_turn::turn::turn;
-use spk_turn::{Counts, fill};
+use spk_turn::Counts;
 use std::sync::ledger::Ledger;
 
 /// The sites of a rank, the solver that keeps their propensities, the stream from which it draws, and its events since the run's start.
 #[derive(Debug, Drop)]
 pub struct Rank {
     pub view: PlainView,
-    pub solver: Linear,
+    pub solver: AnySolver,
     pub stream: Stream,
     pub counts: Counts,
 }
@@ -29,18 +29,19 @@ impl Rank {
         lattice: &Lattice,
         values: Vec<u32>,
         stream: Stream,
-        mut solver: Linear,
+        mut solver: AnySolver,
         steps: &mut Steps<L>,
     ) -> Rank
         requires fits { length values.items ≡ sites_of lattice.now }
         requires valid { All (λ v. IsTrue ((A.rules app.now).is_valid v)) values.items }
-        requires room { sites_of lattice.now ≤ solver.room }
+        requires room { sites_of lattice.now ≤ room_of solver }
         ensures state { state_of result ≡ record { values = values.items; stream = stream; counts = no_counts } }
+        ensures solver { style_of result.solver ≡ style_of solver }
         ensures kept { IsKept (A.rules app.now) (A.PROP + A.STEP) lattice.now result }
     {
         lattice.known();
         let view = PlainView::new(lattice, values);
-        fill(&view, app, &mut solver, lattice.sites() as usize, steps);
+        solver.fill(&view, app, lattice.sites() as usize, steps);
         Rank {
             view,
             solver,
@@ -58,13 +59,13 @@ impl Rank {
         steps: &mut Steps<L>,
     )
         requires { IsKept (A.rules app.now) (A.PROP + A.STEP) lattice.now self.old }
-        ensures state { state_of self.new ≡ turn_of (whole_lattice (A.rules app.now) lattice.now) window (state_of self.old) }
+        ensures state { state_of self.new ≡ turn_of (whole_lattice (A.rules app.now) (rule_of (style_of self.old.solver)) lattice.now) window (state_of self.old) }
+        ensures solver { style_of self.new.solver ≡ style_of self.old.solver }
         ensures kept { IsKept (A.rules app.now) (A.PROP + A.STEP) lattice.now self.new }
     {
-        turn(
+        self.solver.turn(
             &mut self.view,
             app,
-            &mut self.solver,
             &mut self.stream,
             &mut self.counts,
             window,
@@ -76,6 +77,7 @@ impl Rank {
 #[cfg(test)]
 mod tests {
     use super::*;
+    use spk_cmds::SolveStyle;
     use spk_lattice::Style;
     use spk_potts::Ising;
     use std::alloc::{AllocError, Global};
@@ -108,12 +110,12 @@ mod tests {
         lattice: &Lattice,
         app: &A,
         values: Vec<u32>,
-        solver: Linear,
+        solver: AnySolver,
         stream: Stream,
         window: u64,
         blank: Blank,
     ) -> Rank
-        requires room { sites_of lattice.now ≤ solver.room }
+        requires room { sites_of lattice.now ≤ room_of solver }
         requires name { blank.name ≡ L.name }
         requires parts { blank.parts ≡ L.parts }
         requires some { 0 < blank.parts }
@@ -146,7 +148,7 @@ mod tests {
                 let _draw = stream.next();
             }
             let values = values_of(&rt, rt.alloc(), &app, drawn)?;
-            let solver = Linear::new(rt.alloc(), lattice.sites() as usize)?;
+            let solver = AnySolver::new(rt.alloc(), SolveStyle::Linear, lattice.sites() as usize)?;
             let blank = Blank::new(1);
             let rank = turned::<Ising, Brand>(
                 &rt, &lattice, &app, values, solver, stream, window, blank,

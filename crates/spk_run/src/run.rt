@@ -5,6 +5,7 @@ ghost use Rattle.spk_world.specs.Effects.{Wrote};
 ghost use Rattle.spk_run.specs.Output.{prints_all};
 ghost use Rattle.spk_run.specs.Runs.{run_texts, domain_after};
 ghost use Rattle.spk_run.specs.Running.{IsRunnable};
+ghost use Rattle.spk_run.specs.Solvers.{style_of};
 ghost use Rattle.spk_run.specs.Endings.{target_stop};
 
 use crate::domain::Domain;
@@ -32,6 +33,7 @@ pub fn run<W: World, A: App, L: Ledger>(
     requires some { 0 < blank.parts }
     requires one_sector { plan.now.sectors ≡ 1 }
     requires runnable { IsRunnable (A.rules app.now) domain room }
+    requires solver { style_of room.solver ≡ plan.now.solver }
     requires fits { domain.time + plan.now.length < 2 ^ 64 }
     ensures domain { result.domain ≡ domain_after (A.rules app.now) plan.now domain }
     ensures wrote { Wrote target_stop (W.state world.old) (W.state world.new) (prints_all room.output.log (run_texts (A.rules app.now) plan.now domain)) result.written }

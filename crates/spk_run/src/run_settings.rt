@@ -1,5 +1,6 @@
 //! The settings of a run.
 
+use spk_cmds::SolveStyle;
 use spk_num::sweep::Sweep;
 
 /// How long a cycle is: so many ticks, or so many millionths of the time in which the readiest site has one event on the
@@ -20,6 +21,8 @@ pub struct RunSettings {
     pub largest: u64,
     /// How many sectors each cycle goes through.
     pub sectors: u32,
+    /// By whose rule events are chosen.
+    pub solver: SolveStyle,
     pub sweep: Option<Sweep>,
     /// Ticks from one line of statistics to the next, and 0 where only the first and the last are written.
     pub stats: u64,

@@ -11,6 +11,7 @@ ghost use Rattle.spk_run.specs.Plans.{cycles, elapsed, window};
 ghost use Rattle.spk_run.specs.Output.{prints_then};
 ghost use Rattle.spk_run.specs.Runs.{mark_text, domain_after};
 ghost use Rattle.spk_run.specs.Running.{HasDone, HasRoomFor, IsReady, IsRunnable, RunsOn};
+ghost use Rattle.spk_run.specs.Solvers.{style_of};
 ghost use Rattle.spk_run.specs.Telling.{GoesOnTelling};
 
 use crate::answer::Target;
@@ -18,13 +19,14 @@ use crate::domain::Domain;
 use crate::output::Output;
 use crate::plan::Plan;
 use crate::rank::Rank;
+use crate::solver::AnySolver;
 use crate::statistics::{LINE_ROOM, StatsLine};
 use crate::streams::Streams;
 use crate::teller::Teller;
 use crate::values::Values;
 use spk_app::{App, Steps};
+use spk_cmds::SolveStyle;
 use spk_lattice::Lattice;
-use spk_solve::Linear;
 use spk_turn::Counts;
 use spk_world::World;
 use std::alloc::{AllocError, Global};
@@ -36,7 +38,7 @@ pub struct RunRoom {
     pub output: Output,
     /// A line of statistics.
     pub line: Vec<u8>,
-    pub solver: Linear,
+    pub solver: AnySolver,
 }
 
 /// A run of a box with its state so far.
@@ -62,15 +64,21 @@ pub struct Finished {
 }
 
 impl RunRoom {
-    /// The room for a run of the sites of a box.
-    pub fn new(alloc: Global, domain: &Domain, output: Output) -> Result<RunRoom, AllocError>
+    /// The room for a run of the sites of a box by a solver of a style.
+    pub fn new(
+        alloc: Global,
+        domain: &Domain,
+        solver: SolveStyle,
+        output: Output,
+    ) -> Result<RunRoom, AllocError>
         ensures room { IfOk result (HasRoomFor domain.now) }
+        ensures solver { IfOk result (λ room. style_of room.solver ≡ solver) }
         ensures output { IfOk result (λ room. room.output ≡ output) }
     {
         Ok(RunRoom {
             output,
             line: Vec::with_capacity(alloc, LINE_ROOM)?,
-            solver: Linear::new(alloc, domain.lattice.sites() as usize)?,
+            solver: AnySolver::new(alloc, solver, domain.lattice.sites() as usize)?,
         })
     }
 }
@@ -84,7 +92,7 @@ impl Running {
         steps: &mut Steps<L>,
     ) -> Running
         requires { IsRunnable (A.rules app.now) domain room }
-        ensures done { (settings : Settings) → HasDone (A.rules app.now) settings domain 0 result }
+        ensures done { (settings : Settings) → style_of room.solver ≡ settings.solver → HasDone (A.rules app.now) settings domain 0 result }
         ensures output { result.teller.output ≡ room.output }
         ensures written { result.teller.written ≡ Ok tt }
         ensures ready { IsReady (A.rules app.now) (A.PROP + A.STEP) result }

@@ -1,15 +1,8 @@
 -- Commands that aren't built yet, whatever their words are. A session refuses each by its first word.
-use Rattle.std.specs.Prelude.{ℕ, Bool, true, false, not, if◌then◌else◌, List, codes, Option, Some, None}
+use Rattle.std.specs.Prelude.{ℕ, Bool, if◌then◌else◌, List, codes, Option, Some, None}
 use Rattle.std.specs.List.{list_any}
-use Rattle.spk_cmds.specs.declared.command.SolveStyle.{SolveStyle}
-use Rattle.spk_cmds.specs.declared.command.SolveStyle.TheVariants.{Linear}
 use Rattle.spk_cmds.specs.declared.command.Command.{Command}
-use Rattle.spk_cmds.specs.declared.command.Command.TheVariants.{Boundary, Processors, ReadSites, WriteRestart, ReadRestart, Sector, Solve, Sweep, DiagEnergy, Dump, Undump}
-
--- what is built of each command that has several forms
-abbrev pub is_built_solver : SolveStyle → Bool
-is_built_solver Linear = true
-is_built_solver style = false
+use Rattle.spk_cmds.specs.declared.command.Command.TheVariants.{Boundary, Processors, ReadSites, WriteRestart, ReadRestart, Sector, Sweep, DiagEnergy, Dump, Undump}
 
 abbrev pub word_if : Bool → List ℕ → Option (List ℕ)
 word_if unbuilt word = if unbuilt then Some word else None
@@ -22,7 +15,6 @@ unbuilt_word (ReadSites file) = Some (codes "read_sites")
 unbuilt_word (WriteRestart file) = Some (codes "write_restart")
 unbuilt_word (ReadRestart file) = Some (codes "read_restart")
 unbuilt_word (Sector divided tstop nstop) = Some (codes "sector")
-unbuilt_word (Solve style) = word_if (not (is_built_solver style)) (codes "solve_style")
 unbuilt_word (Sweep style) = Some (codes "sweep")
 unbuilt_word DiagEnergy = Some (codes "diag_style")
 unbuilt_word (Dump name style delta file fields) = Some (codes "dump")

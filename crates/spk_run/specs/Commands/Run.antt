@@ -1,5 +1,5 @@
 -- `run`: it is refused for the first cause that holds, and else runs the sites of the box.
-use Rattle.std.specs.Prelude.{ℕ, ◌+◌, not, List, [], ◌∷◌, Option, Some, None, Result, Ok}
+use Rattle.std.specs.Prelude.{ℕ, ◌+◌, not, List, [], ◌∷◌, Option, Some, None, unwrap_or, Result, Ok}
 use Rattle.std.specs.Option.{option_map}
 use Rattle.std.specs.List.{position}
 use Rattle.spk_world.specs.Effects.{Effect, ◌>>=◌, answers}
@@ -11,6 +11,7 @@ use Rattle.spk_run.specs.declared.run_settings.RunSettings.{RunSettings}
 use Rattle.spk_run.specs.declared.state.SessionState.{SessionState}
 use Rattle.spk_app.specs.Applications.{Application}
 use Rattle.spk_cmds.specs.declared.command.AppStyle.{AppStyle}
+use Rattle.spk_cmds.specs.declared.command.SolveStyle.TheVariants.{Linear}
 use Rattle.spk_run.specs.Applications.{application_of}
 use Rattle.spk_run.specs.Plans.{is_too_long}
 use Rattle.spk_run.specs.Runs.{runs}
@@ -20,7 +21,8 @@ use Rattle.spk_run.specs.States.{first_of, if_so, missing, are_made}
 abbrev pub application_on : SessionState → AppStyle → Domain → Application
 application_on state style domain = application_of style domain.lattice.style state.temperature
 
--- without `sector`, a cycle has one step and takes the time in which the readiest site has one event on the average
+-- Without `sector`, a cycle has one step and takes the time in which the readiest site has one event on the average. Without a
+-- solver a run is refused.
 abbrev pub settings_of : SessionState → ℕ → Application → Domain → RunSettings
 settings_of state length application domain = record {
   start = domain.time;
@@ -28,6 +30,7 @@ settings_of state length application domain = record {
   cycle = Nstop 1000000;
   largest = application.largest;
   sectors = 1;
+  solver = unwrap_or state.solver Linear;
   sweep = None;
   stats = state.stats;
 }

@@ -1,18 +1,12 @@
 //! Commands that aren't built yet, whatever their words are.
 
-ghost use Rattle.std.specs.Prelude.{◌≡◌, not, IfOk};
+ghost use Rattle.std.specs.Prelude.{◌≡◌, IfOk};
 ghost use Rattle.std.specs.List.{list_any};
-ghost use Rattle.spk_run.specs.Commands.NotBuilt.{is_built_solver, word_if, unbuilt_word};
+ghost use Rattle.spk_run.specs.Commands.NotBuilt.{word_if, unbuilt_word};
 
-use spk_cmds::{Command, SolveStyle};
+use spk_cmds::Command;
 use spk_num::text::Text;
 use std::alloc::{AllocError, Global};
-
-fn is_built_solver(style: SolveStyle) -> bool
-    ensures { result ≡ is_built_solver style }
-{
-    matches!(style, SolveStyle::Linear)
-}
 
 /// Whether a face isn't periodic.
 fn has_open_face(faces: &[bool]) -> bool
@@ -43,7 +37,6 @@ pub fn unbuilt_word(alloc: Global, command: &Command) -> Result<Option<Text>, Al
         Command::WriteRestart { .. } => word_if(alloc, true, "write_restart"),
         Command::ReadRestart { .. } => word_if(alloc, true, "read_restart"),
         Command::Sector { .. } => word_if(alloc, true, "sector"),
-        Command::Solve { style } => word_if(alloc, !is_built_solver(*style), "solve_style"),
         Command::Sweep { .. } => word_if(alloc, true, "sweep"),
         Command::DiagEnergy => word_if(alloc, true, "diag_style"),
         Command::Dump { .. } => word_if(alloc, true, "dump"),
@@ -57,6 +50,7 @@ pub fn unbuilt_word(alloc: Global, command: &Command) -> Result<Option<Text>, Al
         | Command::CreateSites
         | Command::Set { .. }
         | Command::Temperature { .. }
+        | Command::Solve { .. }
         | Command::Stats { .. }
         | Command::Run { .. }
         | Command::Print { .. }

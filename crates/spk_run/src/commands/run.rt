@@ -7,6 +7,7 @@ ghost use Rattle.spk_run.specs.Causes.{IsOfState};
 ghost use Rattle.spk_run.specs.Commands.Run.{settings_of, bad_value, domain_cause, run_cause, runs_domain_by, performs_run};
 ghost use Rattle.spk_run.specs.Prepared.{IsPrepared};
 ghost use Rattle.spk_run.specs.Running.{IsRunnable};
+ghost use Rattle.spk_run.specs.Solvers.{style_of};
 ghost use Rattle.spk_run.specs.Faults.{fault_stop, done_to, LeavesDone, WritesAfterMemory};
 
 use crate::application::AnyApplication;
@@ -19,7 +20,7 @@ use crate::run_settings::{Cycle, RunSettings};
 use crate::running::{Finished, RunRoom};
 use crate::state::SessionState;
 use crate::values::Values;
-use spk_cmds::AppStyle;
+use spk_cmds::{AppStyle, SolveStyle};
 use spk_world::World;
 use std::alloc::{AllocError, Global};
 
@@ -61,6 +62,7 @@ impl SessionState {
             cycle: Cycle::Nstop(1_000_000),
             largest: application.largest(),
             sectors: 1,
+            solver: self.solver.unwrap_or(SolveStyle::Linear),
             sweep: None,
             stats: self.stats,
         })
@@ -121,7 +123,7 @@ impl SessionState {
         let application = self.application(style, domain);
         let plan = self.plan(length, &application, domain);
         let output = Output::new(alloc, &self.log)?;
-        let room = RunRoom::new(alloc, domain, output)?;
+        let room = RunRoom::new(alloc, domain, plan.settings().solver, output)?;
         Ok(Some(Prepared {
             application,
             plan,
@@ -134,6 +136,7 @@ impl SessionState {
         requires one_sector { prepared.plan.sectors ≡ 1 }
         requires runnable { IfSome self.old.domain (λ domain. IsRunnable (rules_of prepared.application) domain prepared.room) }
         requires fits { IfSome self.old.domain (λ domain. domain.time + prepared.plan.length < 2 ^ 64) }
+        requires solver { style_of prepared.room.solver ≡ prepared.plan.solver }
         requires log { prepared.room.output.log ≡ self.old.log }
         ensures wrote { Wrote fault_stop (W.state world.old) (W.state world.new) (runs_domain_by self.old (rules_of prepared.application) prepared.plan self.old.domain) (done_to self.new result) }
         ensures memory { WritesAfterMemory (W.state world.old).told (W.state world.new).told result }

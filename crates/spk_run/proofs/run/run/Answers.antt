@@ -8,7 +8,7 @@ use Rattle.spk_run.proofs.run.run.Goals as goal
 
 pub loop-cycle-init : goal.loop-cycle-init
 loop-cycle-init g c =
-    let has = has_done_telling (g.A.App.rules c.args.app.now) c.args.plan.now c.args.domain 0 c.new-running.result c.tell.new.self (c.new-running.ensures.done c.args.plan.now) in
+    let has = has_done_telling (g.A.App.rules c.args.app.now) c.args.plan.now c.args.domain 0 c.new-running.result c.tell.new.self (c.new-running.ensures.done c.args.plan.now c.requires.solver) in
     let log = ap (λ (output : Output). output.log) c.new-running.ensures.output in
     let header = c.tell.ensures _ _ _ _ (starts_telling (g.W.World.state c.args.world.now) c.args.room.output.log (g.A.App.rules c.args.app.now) c.args.plan.now c.args.domain c.new-running.result.teller c.new-running.ensures.written log) in
     record {

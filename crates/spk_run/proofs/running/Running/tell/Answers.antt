@@ -14,6 +14,7 @@ returns-clause-telling g c = λ application settings domain done start log whole
 pub returns-clause-done : goal.returns-clause-done
 returns-clause-done g c = λ application settings domain done has. record {
   keeps = record { lattice = has.keeps.lattice; time = has.keeps.time; streams = has.keeps.streams; counts = has.keeps.counts; sweeps = has.keeps.sweeps; some_stream = has.keeps.some_stream; line = c.write.ensures.room };
+  solver = has.solver;
   state = has.state;
 }
 
