@@ -49,7 +49,7 @@ impl PlainView {
 }
 
 /// The neighbours of the site at a place, by their places.
-fn places_beside(lattice: &Lattice, place: usize) -> Neighbours
+pub fn places_beside(lattice: &Lattice, place: usize) -> Neighbours
     requires { place < sites_of lattice.now }
     ensures few { result.count ≤ 26 }
     ensures places { ids_of result ≡ places_beside lattice.now place }

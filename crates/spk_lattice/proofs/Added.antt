@@ -1,13 +1,13 @@
 -- Regions with one more.
-use Rattle.std.proofs.Common.{◌≡◌, ℕ, suc, ◌+◌, ◌<◌, ◌≤◌, Bool, true, false, cond, nat_lt, nat_le, if◌then◌else◌, List, [], ◌∷◌, ◌++◌, map, length, get_or, take, drop, ℤ, Option, Some, None, Result, Ok, Err, refl, sym, ap, ◌∙◌, subst, arith, rules, inl, inr}
-use Rattle.std.specs.List.{find, fold, All, AllPairs, position_or_len}
+use Rattle.std.proofs.Common.{◌≡◌, ℕ, suc, ◌<◌, ◌≤◌, Bool, true, false, cond, nat_lt, nat_le, if◌then◌else◌, List, [], ◌∷◌, ◌++◌, map, length, get_or, ℤ, Option, Some, None, Result, Ok, Err, refl, sym, ap, ◌∙◌, subst, arith, inl, inr}
+use Rattle.std.specs.List.{fold, All, position_or_len}
 use Rattle.std.specs.Prelude.{is_some}
 use Rattle.std.specs.Option.{option_map, option_or}
 use Rattle.std.specs.Result.{IsErrAnd}
 use Rattle.std.specs.Str.{bytes_eq}
 use Rattle.std.proofs.lemmas.Bool.{cases_lt}
 use Rattle.std.proofs.lemmas.Bool.Decides.{nat_tests}
-use Rattle.std.proofs.lemmas.List.{length-map, get_or-map, length_push, map_push, get_or_append_left, get_or_push, take_more, at_drop_more, at_drop_all, length-take-le}
+use Rattle.std.proofs.lemmas.List.{length-map, get_or-map, length_push, map_push, get_or_append_left, get_or_push}
 use Rattle.std.proofs.lemmas.List.Sums.{fails_before_first}
 use Rattle.std.proofs.lemmas.List.Quantifiers.{all_pairs_push}
 use Rattle.spk_num.specs.declared.shape.Shape.{Shape}
@@ -19,7 +19,7 @@ use Rattle.spk_lattice.specs.declared.regions.region.NamedShape.{NamedShape}
 use Rattle.spk_lattice.specs.declared.regions.region.Region.{Region}
 use Rattle.spk_lattice.specs.Shapes.{parts_of, is_empty, shape_holds, IsInRange}
 use Rattle.spk_lattice.specs.Regions.{Answers, no_answers, answers_of_parts, with_answer, holds, place_of, name_at, unknown_part, fault_of, ok_unless, added, is_memory, named_shapes, ArePlaces, AreRegions}
-use Rattle.spk_lattice.proofs.Stored.{name_is, length_named}
+use Rattle.spk_lattice.proofs.Stored.{length_named}
 
 -- no region has a name that isn't found
 first_past : (p : NamedShape → Bool) (regions : List NamedShape) → cond (nat_lt (position_or_len p regions) (length regions)) (Some (position_or_len p regions)) None ≡ None → length regions ≤ position_or_len p regions

@@ -1,13 +1,12 @@
 -- Which points a region holds, by what the regions before it hold.
-use Rattle.std.proofs.Common.{◌≡◌, ℕ, suc, ◌+◌, ◌-◌, ◌<◌, ◌≤◌, Bool, true, false, cond, List, [], ◌∷◌, ◌++◌, map, length, get_or, take, drop, ℤ, Option, Some, None, refl, true≢false, sym, ap, ◌∙◌, subst, arith, rules, length-drop, length-take}
-use Rattle.std.specs.List.{fold, All, AllPairs}
+use Rattle.std.proofs.Common.{◌≡◌, ℕ, suc, ◌+◌, ◌<◌, ◌≤◌, Bool, true, false, cond, List, [], ◌∷◌, map, length, get_or, take, drop, ℤ, Option, Some, refl, true≢false, sym, ap, ◌∙◌, arith, length-drop}
+use Rattle.std.specs.List.{fold, All}
 use Rattle.std.specs.Option.{unwrap_or}
 use Rattle.std.specs.Str.{bytes_eq}
 use Rattle.std.proofs.lemmas.List.{length-map, get_or-map, get_or-drop, take-append-drop, same_lists, nil_from_length}
 use Rattle.std.proofs.lemmas.List.Folds.{fold-map}
 use Rattle.std.proofs.lemmas.List.Sums.{fold-append, fold_more}
 use Rattle.std.proofs.lemmas.Slice.Eq.{bytes_eq-Decides}
-use Rattle.spk_lattice.specs.declared.regions.region.NamedShape.{NamedShape}
 use Rattle.spk_lattice.specs.declared.regions.region.Region.{Region}
 use Rattle.spk_lattice.specs.Shapes.{parts_of, shape_holds}
 use Rattle.spk_lattice.specs.Regions.{Answers, no_answers, answers_of_parts, with_answer, holds, name_at, named_shapes, ArePlaces, AreRegions}

@@ -1,6 +1,7 @@
 pub mod Added
 pub mod Answers
 pub mod Balls
+pub mod Boxes
 pub mod Holding
 pub mod Hops
 pub mod Merges

@@ -7,7 +7,6 @@ use Rattle.std.proofs.lemmas.List.Elements.{filter-append}
 use Rattle.std.proofs.lemmas.Bool.Decides.{nat_tests}
 use Rattle.std.specs.Prelude.{filter, Bool, IsTrue, nat_lt}
 use Rattle.std.specs.List.{range_with_len}
-use Rattle.spk_num.specs.declared.style.Style.{Style}
 use Rattle.spk_lattice.specs.declared.table.Row.{Row}
 use Rattle.spk_lattice.specs.declared.table.Step.{Step}
 use Rattle.spk_lattice.specs.declared.table.Offset.{Offset}

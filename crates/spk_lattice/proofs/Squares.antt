@@ -1,5 +1,5 @@
 -- How large a square can be.
-use Rattle.std.proofs.Common.{ℕ, ◌*◌, ◌≤◌, arith}
+use Rattle.std.proofs.Common.{ℕ, ◌*◌, ◌≤◌}
 use Rattle.std.proofs.Math.Nat.{mul-le-mul}
 
 -- the square of a distance between two lengths of at most 10^7 units each, in millionths of half units

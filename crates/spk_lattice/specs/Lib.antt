@@ -6,3 +6,4 @@ pub mod Hops
 pub mod Spread
 pub mod Regions
 pub mod Shapes
+pub mod Boxes

@@ -1,6 +1,7 @@
 //! Lattices: their styles, extents, sites and neighbours. Regions: which points they hold.
 #![tactic(auto)]
 
+pub mod cells;
 mod grid;
 pub mod lattice;
 pub mod neighbours;
@@ -10,6 +11,7 @@ pub mod regions;
 mod style_row;
 mod table;
 
+pub use cells::Cells;
 pub use lattice::{Lattice, LatticeFault};
 pub use neighbours::Neighbours;
 pub use place::Place;

@@ -1,7 +1,6 @@
-use Rattle.std.proofs.Common.{◌≡◌, ◌∙◌, ap, subst, get_or, []}
+use Rattle.std.proofs.Common.{◌≡◌, subst, []}
 use Rattle.spk_lattice.specs.Layout.{Layout}
 use Rattle.spk_lattice.specs.Table.{table_of}
-use Rattle.spk_lattice.specs.Neighbours.{degree_of}
 use Rattle.spk_lattice.proofs.Rows.{degree_is}
 use Rattle.spk_lattice.proofs.Ways.{degree_few}
 use Rattle.spk_lattice.proofs.lattice.Lattice.degree.Goals as goal

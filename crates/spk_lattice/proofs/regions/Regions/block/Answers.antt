@@ -1,10 +1,5 @@
-use Rattle.std.proofs.Common.{sym, ap, subst}
-use Rattle.std.specs.Prelude.{List, Option}
-use Rattle.std.specs.Option.{IfSome, option_and_then}
-use Rattle.std.specs.List.{find}
 use Rattle.std.specs.Str.{bytes_eq}
 use Rattle.spk_lattice.specs.declared.regions.region.Region.{Region}
-use Rattle.spk_lattice.specs.Regions.{block_in, IsNearBlock}
 use Rattle.spk_lattice.proofs.Stored.{block_is, near_block}
 use Rattle.spk_lattice.proofs.regions.Regions.block.Goals as goal
 

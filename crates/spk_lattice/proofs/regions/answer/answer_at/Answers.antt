@@ -1,4 +1,4 @@
-use Rattle.std.proofs.Common.{◌≡◌, ℕ, ◌<◌, ◌≢◌, Bool, false, length, get_or, arith, rules, below_more, length-set, get_or-set_other, get_or-set_same, ◌∙◌}
+use Rattle.std.proofs.Common.{◌≡◌, ◌<◌, ◌≢◌, length, arith, below_more, length-set, get_or-set_other, get_or-set_same, ◌∙◌}
 use Rattle.std.proofs.lemmas.Bool.Decides.{nat_tests}
 use Rattle.spk_lattice.proofs.Holding.{answer_alone, answer_next}
 use Rattle.spk_lattice.proofs.regions.answer.answer_at.Goals as goal

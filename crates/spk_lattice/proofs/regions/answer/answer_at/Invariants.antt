@@ -1,4 +1,4 @@
-use Rattle.std.proofs.Common.{◌≡◌, ℕ, ◌<◌, Bool, false, length, get_or, Some}
+use Rattle.std.proofs.Common.{◌≡◌, ℕ, ◌<◌, false, length, get_or, Some}
 use Rattle.spk_lattice.specs.Regions.{holds, name_at, named_shapes}
 use Rattle.spk_lattice.proofs.regions.answer.answer_at.Given as goal
 
