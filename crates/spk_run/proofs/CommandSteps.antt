@@ -1,6 +1,6 @@
 -- What a command does, and where it stops.
 use Rattle.std.proofs.Common.{◌≡◌, ℕ, ◌+◌, ◌<◌, ◌^◌, ◌++◌, List, [], ◌∷◌, length, Option, Some, None, Result, Ok, Err, refl, sym, ap, ◌∙◌, subst, inl, inr, arith}
-use Rattle.std.specs.Option.{IfSome, option_map}
+use Rattle.std.specs.Option.{IfSome, option_map, option_and_then}
 use Rattle.std.specs.Result.{IfErr, IsErrAnd}
 use Rattle.std.proofs.lemmas.Bool.{cases_Bool}
 use Rattle.std.proofs.lemmas.Bool.Decides.{nat_tests}
@@ -14,15 +14,15 @@ use Rattle.spk_cmds.specs.declared.command.Command.{Command}
 use Rattle.spk_cmds.specs.declared.command.Command.TheVariants.{Seed, App, Dimension, Lattice, Boundary, Processors, Region, CreateBox, CreateSites, Set, ReadSites, WriteRestart, ReadRestart, Sector, Solve, Sweep, Temperature, Stats, DiagEnergy, Dump, Undump, Run, Print, SetEcho}
 use Rattle.spk_run.specs.declared.answer.Target.{Target}
 use Rattle.spk_run.specs.declared.cause.Cause.{Cause}
-use Rattle.spk_run.specs.declared.cause.Cause.TheVariants.{BadValueForApp, NoSites, RunTooLong}
+use Rattle.spk_run.specs.declared.cause.Cause.TheVariants.{BadValueForApp, NoSites}
 use Rattle.spk_run.specs.declared.domain.Domain.{Domain}
 use Rattle.spk_run.specs.declared.fault.Fault.{Fault}
 use Rattle.spk_run.specs.declared.fault.Fault.TheVariants as fault
-use Rattle.spk_run.specs.declared.run_settings.RunSettings.{RunSettings}
+use Rattle.spk_sched.specs.declared.run_settings.RunSettings.{RunSettings}
 use Rattle.spk_run.specs.declared.state.SessionState.{SessionState}
 use Rattle.spk_run.specs.Endings.{target_stop}
 use Rattle.spk_run.specs.declared.commands.run.Prepared.{Prepared}
-use Rattle.spk_run.specs.Prepared.{IsFor, IsPreparedFor, IsPrepared}
+use Rattle.spk_run.specs.Prepared.{IsFor, IsPreparedFor, IsPrepared, kinetics_for}
 use Rattle.spk_app.specs.Applications.{Application}
 use Rattle.spk_lattice.specs.Layout.{sites_of}
 use Rattle.spk_cmds.specs.declared.command.AppStyle.{AppStyle}
@@ -33,13 +33,17 @@ use Rattle.spk_script.proofs.Cuts.{place_missing}
 use Rattle.std.specs.Prelude.{Bool, IsTrue, not}
 use Rattle.spk_run.specs.Faults.{fault_stop, done_to, NoRead, LeavesDone, WritesAfterMemory}
 use Rattle.spk_run.specs.Output.{prints, prints_all}
-use Rattle.spk_run.specs.Plans.{is_too_long}
+use Rattle.spk_sched.specs.Plans.{plan_fault}
+use Rattle.spk_sched.specs.Globals.{Kinetics, kinetics_of}
+use Rattle.spk_cmds.specs.declared.command.SolveStyle.{SolveStyle}
+use Rattle.spk_run.specs.Causes.{plan_cause}
+use Rattle.spk_run.specs.Solvers.{rule_of, style_of}
 use Rattle.spk_run.specs.Running.{IsRunnable}
 use Rattle.spk_run.specs.Runs.{runs, run_texts, domain_after}
 use Rattle.spk_run.specs.States.{first_of, if_so, ticks_of, are_made, has_sites}
 use Rattle.spk_run.specs.Commands.{cause, set_by, performs}
 use Rattle.spk_run.specs.Commands.NotBuilt.{unbuilt_word}
-use Rattle.spk_run.specs.Commands.Run.{application_on, settings_of, bad_value, domain_cause, domain_causes, run_causes, run_cause, with_domain, runs_by, runs_domain, runs_domain_by, performs_run}
+use Rattle.spk_run.specs.Commands.Run.{application_on, kinetics_in, settings_of, bad_value, domain_cause, domain_causes, run_causes, run_cause, with_domain, runs_by, runs_domain, runs_domain_by, performs_run}
 
 pub fault_stop-memory : fault_stop fault.Memory ≡ WorldOutOfMemory
 unfolding fault_stop
@@ -90,47 +94,47 @@ pub print_left : (told : Option Outside) (state : SessionState) (text : List ℕ
 print_left = print_left_by
 
 -- there is nothing to run without a box
-pub nothing_runs : {world : WorldState} (state : SessionState) (application : Application) (settings : RunSettings) (domain : Option Domain) → state.domain ≡ None → domain ≡ None →
-    Wrote fault_stop world world (runs_domain_by state application settings state.domain) (Ok (Ok (record state { domain = domain })))
-nothing_runs {world = world} state application settings domain none after =
-    subst (λ (d : Option Domain). Wrote fault_stop world world (runs_domain_by state application settings state.domain) (Ok (Ok (record state { domain = d })))) (none ∙ sym after) (rw none wrote_answer)
+pub nothing_runs : {world : WorldState} (state : SessionState) (kinetics : Kinetics) (settings : RunSettings) (domain : Option Domain) → state.domain ≡ None → domain ≡ None →
+    Wrote fault_stop world world (runs_domain_by state kinetics settings state.domain) (Ok (Ok (record state { domain = domain })))
+nothing_runs {world = world} state kinetics settings domain none after =
+    subst (λ (d : Option Domain). Wrote fault_stop world world (runs_domain_by state kinetics settings state.domain) (Ok (Ok (record state { domain = d })))) (none ∙ sym after) (rw none wrote_answer)
 
 -- a run was done to its end, or stopped
-pub runs_whole : (before now : WorldState) (state : SessionState) (application : Application) (settings : RunSettings) (domain after : Domain) (log : Option (List ℕ)) → state.domain ≡ Some domain → log ≡ state.log →
-    after ≡ domain_after application settings domain → Wrote target_stop before now (prints_all log (run_texts application settings domain)) (Ok tt) →
-    Wrote fault_stop before now (runs_domain_by state application settings state.domain) (Ok (Ok (with_domain state after)))
-runs_whole before now state application settings domain after log is same box done =
-    let whole : Wrote target_stop before now (runs state.log application settings domain) (Ok (domain_after application settings domain)) = wrote_then _ (rw same at done) wrote_answer in
+pub runs_whole : (before now : WorldState) (state : SessionState) (kinetics : Kinetics) (settings : RunSettings) (domain after : Domain) (log : Option (List ℕ)) → state.domain ≡ Some domain → log ≡ state.log →
+    after ≡ domain_after kinetics settings domain → Wrote target_stop before now (prints_all log (run_texts kinetics settings domain)) (Ok tt) →
+    Wrote fault_stop before now (runs_domain_by state kinetics settings state.domain) (Ok (Ok (with_domain state after)))
+runs_whole before now state kinetics settings domain after log is same box done =
+    let whole : Wrote target_stop before now (runs state.log kinetics settings domain) (Ok (domain_after kinetics settings domain)) = wrote_then _ (rw same at done) wrote_answer in
     rw (is, box) (wrote_then _ (wrote_whole whole) wrote_answer)
 
-pub runs_no_further : (before now : WorldState) (state after : SessionState) (application : Application) (settings : RunSettings) (domain : Domain) (log : Option (List ℕ)) (target : Target) (result : Result (Unit {0}) Fault) →
+pub runs_no_further : (before now : WorldState) (state after : SessionState) (kinetics : Kinetics) (settings : RunSettings) (domain : Domain) (log : Option (List ℕ)) (target : Target) (result : Result (Unit {0}) Fault) →
     IsErrAnd result (λ y. y ≡ fault.Write target) → state.domain ≡ Some domain → log ≡ state.log →
-    Wrote target_stop before now (prints_all log (run_texts application settings domain)) (Err target) →
-    Wrote fault_stop before now (runs_domain_by state application settings state.domain) (done_to after result)
-runs_no_further before now state after application settings domain log target result failed is same prefix =
-    let part : Wrote target_stop before now (runs state.log application settings domain) (Err target) = wrote_failed {result = Err target} _ refl (rw same at prefix) in
-    let stopped : Wrote fault_stop before now (runs state.log application settings domain) (Err (fault.Write target)) = wrote_fault target (fault_stop-write target) part in
+    Wrote target_stop before now (prints_all log (run_texts kinetics settings domain)) (Err target) →
+    Wrote fault_stop before now (runs_domain_by state kinetics settings state.domain) (done_to after result)
+runs_no_further before now state after kinetics settings domain log target result failed is same prefix =
+    let part : Wrote target_stop before now (runs state.log kinetics settings domain) (Err target) = wrote_failed {result = Err target} _ refl (rw same at prefix) in
+    let stopped : Wrote fault_stop before now (runs state.log kinetics settings domain) (Err (fault.Write target)) = wrote_fault target (fault_stop-write target) part in
     rw (is, is_error result _ failed) (wrote_failed {result = Err (fault.Write target)} _ refl stopped)
 
 -- after a write that failed the session is the one after the whole run
-runs_answer : (state : SessionState) (application : Application) (settings : RunSettings) (domain : Domain) (outside : Outside) →
-    (runs_by state application settings domain outside).answer ≡ Ok (with_domain state (domain_after application settings domain))
-runs_answer state application settings domain outside =
-    then_answer (runs state.log application settings domain) (λ after. Ok (with_domain state after)) outside
-    ∙ ap (λ (d : Domain). let made : Result SessionState Cause = Ok (with_domain state d) in made) (then_answer (prints_all state.log (run_texts application settings domain)) (λ _. domain_after application settings domain) outside)
+runs_answer : (state : SessionState) (kinetics : Kinetics) (settings : RunSettings) (domain : Domain) (outside : Outside) →
+    (runs_by state kinetics settings domain outside).answer ≡ Ok (with_domain state (domain_after kinetics settings domain))
+runs_answer state kinetics settings domain outside =
+    then_answer (runs state.log kinetics settings domain) (λ after. Ok (with_domain state after)) outside
+    ∙ ap (λ (d : Domain). let made : Result SessionState Cause = Ok (with_domain state d) in made) (then_answer (prints_all state.log (run_texts kinetics settings domain)) (λ _. domain_after kinetics settings domain) outside)
 
-run_session_by : (told : Option Outside) (state : SessionState) (application : Application) (settings : RunSettings) (domain after : Domain) (target : Target) → after ≡ domain_after application settings domain →
-    LeavesDone {A = Unit {0}} told (runs_by state application settings domain) state (with_domain state after) (Err (fault.Write target))
-run_session_by None state application settings domain after target box = tt
-run_session_by (Some outside) state application settings domain after target box = runs_answer state application settings domain outside ∙ rw box refl
+run_session_by : (told : Option Outside) (state : SessionState) (kinetics : Kinetics) (settings : RunSettings) (domain after : Domain) (target : Target) → after ≡ domain_after kinetics settings domain →
+    LeavesDone {A = Unit {0}} told (runs_by state kinetics settings domain) state (with_domain state after) (Err (fault.Write target))
+run_session_by None state kinetics settings domain after target box = tt
+run_session_by (Some outside) state kinetics settings domain after target box = runs_answer state kinetics settings domain outside ∙ rw box refl
 
-pub run_session : (told : Option Outside) (state : SessionState) (application : Application) (settings : RunSettings) (domain after : Domain) (target : Target) (result : Result (Unit {0}) Fault) →
-    IsErrAnd result (λ y. y ≡ fault.Write target) → state.domain ≡ Some domain → after ≡ domain_after application settings domain →
-    LeavesDone told (runs_domain_by state application settings state.domain) state (with_domain state after) result
-run_session told state application settings domain after target result failed is box =
-    subst (λ (d : Option Domain). LeavesDone told (runs_domain_by state application settings d) state (with_domain state after) result) (sym is)
-    (subst (λ (r : Result (Unit {0}) Fault). LeavesDone told (runs_by state application settings domain) state (with_domain state after) r) (sym (is_error result _ failed))
-    (run_session_by told state application settings domain after target box))
+pub run_session : (told : Option Outside) (state : SessionState) (kinetics : Kinetics) (settings : RunSettings) (domain after : Domain) (target : Target) (result : Result (Unit {0}) Fault) →
+    IsErrAnd result (λ y. y ≡ fault.Write target) → state.domain ≡ Some domain → after ≡ domain_after kinetics settings domain →
+    LeavesDone told (runs_domain_by state kinetics settings state.domain) state (with_domain state after) result
+run_session told state kinetics settings domain after target result failed is box =
+    subst (λ (d : Option Domain). LeavesDone told (runs_domain_by state kinetics settings d) state (with_domain state after) result) (sym is)
+    (subst (λ (r : Result (Unit {0}) Fault). LeavesDone told (runs_by state kinetics settings domain) state (with_domain state after) r) (sym (is_error result _ failed))
+    (run_session_by told state kinetics settings domain after target box))
 
 -- a failed write alone is a fault after which something may be written
 pub write_after_memory : (before now : Option Outside) (target : Target) (result : Result (Unit {0}) Fault) → IsErrAnd result (λ y. y ≡ fault.Write target) → WritesAfterMemory before now result
@@ -160,11 +164,12 @@ runs_nothing {world = world} state run is = rw (nothing_by state run state.app s
 
 -- a run with the application and the settings of its session
 pub runs_with : (state : SessionState) (run : ℕ) (asked : AppStyle) (found : Domain) (prepared : Prepared) → state.app ≡ Some asked → state.domain ≡ Some found → IsFor state run asked found prepared →
-    runs_domain_by state (rules_of prepared.application) prepared.plan state.domain ≡ performs_run state run
+    runs_domain_by state (kinetics_for prepared) prepared.plan state.domain ≡ performs_run state run
 runs_with state run asked found prepared style box for_run =
-    ap (λ (d : Option Domain). runs_domain_by state (rules_of prepared.application) prepared.plan d) box
-    ∙ ap (λ (a : Application). runs_by state a prepared.plan found) for_run.application
-    ∙ ap (λ (s : RunSettings). runs_by state (application_on state asked found) s found) for_run.plan
+    ap (λ (d : Option Domain). runs_domain_by state (kinetics_for prepared) prepared.plan d) box
+    ∙ ap (λ (a : Application). runs_by state (kinetics_of a (rule_of (style_of prepared.room.solver))) prepared.plan found) for_run.application
+    ∙ ap (λ (s : SolveStyle). runs_by state (kinetics_of (application_on state asked found) (rule_of s)) prepared.plan found) for_run.solver
+    ∙ ap (λ (s : RunSettings). runs_by state (kinetics_in state asked found) s found) for_run.plan
     ∙ sym (ap (λ (a : Option AppStyle). runs_domain state run a state.domain) style ∙ ap (λ (d : Option Domain). runs_domain state run (Some asked) d) box)
 
 -- a run that isn't refused ends in time
@@ -176,13 +181,6 @@ none_holds : (causes : List (Option Cause)) → first_of causes ≡ None → Non
 none_holds [] none = tt
 none_holds (None ∷ causes) none = (refl, none_holds causes none)
 none_holds (Some found ∷ causes) none = absurd (cc none)
-
-not_too_long : (settings : RunSettings) → if_so (is_too_long settings) RunTooLong ≡ None → settings.start + settings.length < 2 ^ 64
-not_too_long settings none =
-    elim (cases_Bool (is_too_long settings)) [
-      | inl long ↦ let some : if_so (is_too_long settings) RunTooLong ≡ Some RunTooLong = rw long refl in absurd (cc (some, none))
-      | inr short ↦ grind (arith, nat_tests)
-    ]
 
 mapped_none : (found : Option ℕ) → option_map (λ place. BadValueForApp (place + 1)) found ≡ None → found ≡ None
 mapped_none None is = refl
@@ -208,7 +206,6 @@ all_valid application values none =
 pub record IsFree (application : Application) (run : ℕ) (domain : Domain) : Type 0 where
   pub fits : length domain.values ≡ sites_of domain.lattice
   pub valid : All (λ v. IsTrue (application.is_valid v)) domain.values
-  pub ends : domain.time + run < 2 ^ 64
 
 made_by : (domain : Domain) → if_so (not (are_made (Some domain))) NoSites ≡ None → length domain.values ≡ sites_of domain.lattice
 made_by domain none =
@@ -224,12 +221,11 @@ run_free_of state run asked found style box none =
     let application : Application = application_on state asked found in
     let last : domain_causes state run state.app state.domain ≡ None = causes.1.1.1.1.1.0 in
     let here : domain_cause state run (application_on state asked found) found ≡ None = rw (style, box) at last in
-    let both = none_holds (bad_value (application_on state asked found) found.values ∷ if_so (is_too_long (settings_of state run (application_on state asked found) found)) RunTooLong ∷ []) here in
+    let both = none_holds (bad_value (application_on state asked found) found.values ∷ option_and_then plan_cause (plan_fault (settings_of state run (application_on state asked found) found)) ∷ []) here in
     let made : if_so (not (are_made state.domain)) NoSites ≡ None = causes.1.1.1.0 in
     record {
       fits = made_by found (rw box at made);
       valid = all_valid (application_on state asked found) found.values both.0;
-      ends = not_too_long (settings_of state run (application_on state asked found) found) both.1.0;
     }
 
 -- what was prepared can run
@@ -243,6 +239,12 @@ pub runnable_for : (state : SessionState) (run : ℕ) (prepared : Prepared) → 
 runnable_for state run prepared is none =
     let made = prepared_for state run prepared is in
     rw made.3 (runnable_by state made.0 made.1 prepared run made.4 (run_free_of state run made.0 made.1 made.2 made.3 none))
+
+-- its plan starts when the box is
+pub starts_for : (state : SessionState) (run : ℕ) (prepared : Prepared) → IsPrepared state run (Some prepared) → IfSome state.domain (λ domain. prepared.plan.start ≡ domain.time)
+starts_for state run prepared is =
+    let made = prepared_for state run prepared is in
+    rw made.3 (ap (λ (s : RunSettings). s.start) made.4.plan)
 
 -- commands that neither run nor print
 performs_other : (state : SessionState) (command : Command) → ((length : Dec) → command ≡ Run length → ⊥) → ((text : List ℕ) → command ≡ Print text → ⊥) →

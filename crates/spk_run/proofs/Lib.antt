@@ -6,7 +6,6 @@ pub mod Headline
 pub mod Loading
 pub mod Obeying
 pub mod Outputs
-pub mod PlanLaws
 pub mod Ranks
 pub mod RunSteps
 pub mod Sessions

@@ -6,12 +6,14 @@ use Rattle.spk_lattice.specs.declared.lattice.LatticeFault.{LatticeFault}
 use Rattle.spk_lattice.specs.declared.lattice.LatticeFault.TheVariants as lattice
 use Rattle.spk_lattice.specs.declared.regions.fault.RegionFault.{RegionFault}
 use Rattle.spk_lattice.specs.declared.regions.fault.RegionFault.TheVariants as region
+use Rattle.spk_sched.specs.declared.plan.PlanFault.{PlanFault}
+use Rattle.spk_sched.specs.declared.plan.PlanFault.TheVariants as plan
 use Rattle.spk_script.specs.declared.fault.LineFault.{LineFault}
 use Rattle.spk_script.specs.declared.fault.LineFault.TheVariants as fault
 use Rattle.spk_cmds.specs.declared.command.CommandFault.{CommandFault}
 use Rattle.spk_cmds.specs.declared.command.CommandFault.TheVariants as command
 use Rattle.spk_run.specs.declared.cause.Cause.{Cause}
-use Rattle.spk_run.specs.declared.cause.Cause.TheVariants.{ScriptTooLong, NotAscii, OpenQuote, TooManyLines, LineTooLong, TooManyCommands, UnknownVariable, WrongWords, BadName, BadFormula, Inexact, NumberTooLarge, LoopValue, NotStepped, OtherFile, NoSuchLabel, BadStyle, UnknownCommand, UnknownStyle, WrongCount, BadNumber, OutOfRange, NotBuilt, BadCommandName, NoSeed, NoApp, NoLattice, NoBox, NoSites, AlreadyMade, WrongDimension, RegionTwice, NoSuchRegion, RegionEmpty, TooManyParts, TooManyRegions, BoxNotBlock, BoxNotWhole, TooSmall, TooManySites, NoSolver, BadValueForApp, RunTooLong, FileMissing}
+use Rattle.spk_run.specs.declared.cause.Cause.TheVariants.{ScriptTooLong, NotAscii, OpenQuote, TooManyLines, LineTooLong, TooManyCommands, UnknownVariable, WrongWords, BadName, BadFormula, Inexact, NumberTooLarge, LoopValue, NotStepped, OtherFile, NoSuchLabel, BadStyle, UnknownCommand, UnknownStyle, WrongCount, BadNumber, OutOfRange, NotBuilt, BadCommandName, NoSeed, NoApp, NoLattice, NoBox, NoSites, AlreadyMade, WrongDimension, RegionTwice, NoSuchRegion, RegionEmpty, TooManyParts, TooManyRegions, BoxNotBlock, BoxNotWhole, TooSmall, TooManySites, NoSolver, BadValueForApp, NotWhole, RunTooLong, FileMissing}
 
 -- each cause has a number and a text
 abbrev pub cause_number : Cause → ℕ
@@ -57,6 +59,7 @@ cause_number (TooSmall dimension) = 315
 cause_number TooManySites = 316
 cause_number NoSolver = 319
 cause_number (BadValueForApp site) = 324
+cause_number NotWhole = 325
 cause_number RunTooLong = 326
 cause_number (FileMissing name) = 401
 
@@ -109,6 +112,7 @@ cause_text (TooSmall dimension) = codes "fewer than 3 cells in " ++ dimension_te
 cause_text TooManySites = codes "more than 4194304 sites"
 cause_text NoSolver = codes "no solve_style and no sweep"
 cause_text (BadValueForApp site) = codes "bad value at site " ++ decimal site
+cause_text NotWhole = codes "not a whole number of sweeps"
 cause_text RunTooLong = codes "run too long"
 cause_text (FileMissing name) = codes "no file " ++ name
 
@@ -144,6 +148,11 @@ words_cause command.Memory = None
 abbrev pub lattice_cause : LatticeFault → Cause
 lattice_cause (lattice.TooSmall dimension) = TooSmall dimension
 lattice_cause lattice.TooManySites = TooManySites
+
+abbrev pub plan_cause : PlanFault → Option Cause
+plan_cause plan.NotWhole = Some NotWhole
+plan_cause plan.RunTooLong = Some RunTooLong
+plan_cause plan.Memory = None
 
 -- the same of a fault of a region with this name; out of memory is none
 abbrev pub shape_cause : List ℕ → RegionFault → Option Cause

@@ -5,10 +5,8 @@ pub mod Commands
 pub mod Drawing
 pub mod Endings
 pub mod Faults
-pub mod Globals
 pub mod Output
 pub mod Plain
-pub mod Plans
 pub mod Prepared
 pub mod Ranks
 pub mod Running

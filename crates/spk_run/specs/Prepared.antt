@@ -6,14 +6,19 @@ use Rattle.spk_run.specs.declared.commands.run.Prepared.{Prepared}
 use Rattle.spk_run.specs.declared.state.SessionState.{SessionState}
 use Rattle.spk_run.specs.Applications.{rules_of}
 use Rattle.spk_run.specs.Running.{HasRoomFor}
-use Rattle.spk_run.specs.Solvers.{style_of}
-use Rattle.spk_run.specs.Commands.Run.{application_on, settings_of}
+use Rattle.spk_run.specs.Solvers.{rule_of, style_of}
+use Rattle.spk_sched.specs.Globals.{Kinetics, kinetics_of}
+use Rattle.spk_run.specs.Commands.Run.{application_on, settings_of, solver_of}
+
+-- the kinetics of what is prepared
+abbrev pub kinetics_for : Prepared → Kinetics
+kinetics_for prepared = kinetics_of (rules_of prepared.application) (rule_of (style_of prepared.room.solver))
 
 pub record IsFor (state : SessionState) (run : ℕ) (style : AppStyle) (domain : Domain) (prepared : Prepared) : Type 0 where
   pub application : rules_of prepared.application ≡ application_on state style domain
   pub plan : prepared.plan ≡ settings_of state run (application_on state style domain) domain
   pub room_for : HasRoomFor domain prepared.room
-  pub solver : style_of prepared.room.solver ≡ prepared.plan.solver
+  pub solver : style_of prepared.room.solver ≡ solver_of state
   pub log : prepared.room.output.log ≡ state.log
 
 abbrev pub IsPreparedFor : SessionState → ℕ → Option AppStyle → Option Domain → Option Prepared → Type 0

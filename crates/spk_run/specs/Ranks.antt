@@ -4,7 +4,7 @@ use Rattle.spk_lattice.specs.Layout.{Layout, sites_of}
 use Rattle.spk_app.specs.Applications.{Application}
 use Rattle.spk_app.specs.PlainViews.{places_beside, sight_of}
 use Rattle.spk_solve.specs.Choice.{Rule}
-use Rattle.spk_turn.specs.Turns.{Sector, RankState, all_places}
+use Rattle.spk_sched.specs.Turns.{Sector, RankState, all_places}
 use Rattle.spk_turn.specs.Ready.{IsReady, propensities_in}
 use Rattle.spk_run.specs.declared.rank.Rank.{Rank}
 use Rattle.spk_run.specs.Solvers.{list_of}

@@ -1,29 +1,24 @@
 -- A run of an application on the sites of a box: the texts that it writes at its marks, and the box after it.
-use Rattle.std.specs.Prelude.{ℕ, ◌+◌, ◌*◌, ◌^◌, List, ◌∷◌, map, Option}
-use Rattle.spk_lattice.specs.Layout.{dimensions_of}
+use Rattle.std.specs.Prelude.{ℕ, ◌+◌, ◌*◌, List, ◌∷◌, map, Option}
 use Rattle.spk_world.specs.Effects.{Effect, ◌>>◌, answers}
 use Rattle.spk_run.specs.declared.domain.Domain.{Domain}
-use Rattle.spk_run.specs.declared.run_settings.RunSettings.{RunSettings}
+use Rattle.spk_sched.specs.declared.run_settings.RunSettings.{RunSettings}
 use Rattle.spk_run.specs.declared.statistics.StatsLine.{StatsLine}
-use Rattle.spk_app.specs.Applications.{Application}
-use Rattle.spk_turn.specs.Turns.{counts_sum}
-use Rattle.spk_run.specs.Ranks.{whole_lattice}
-use Rattle.spk_run.specs.Solvers.{rule_of}
-use Rattle.spk_run.specs.Plans.{elapsed, marks, steps}
-use Rattle.spk_run.specs.Globals.{GlobalState, Job, global_state, all_counts}
+use Rattle.spk_sched.specs.Turns.{counts_sum}
+use Rattle.spk_sched.specs.Plans.{elapsed, marks, steps}
+use Rattle.spk_sched.specs.Decompositions.{Triple, whole_of}
+use Rattle.spk_sched.specs.Globals.{GlobalState, Job, Kinetics, global_state, all_counts}
 use Rattle.spk_run.specs.Statistics.{header_text, statistics_text}
 use Rattle.spk_run.specs.Output.{prints_all}
 
--- the streams of a rank are those of its 2, 4 or 8 sectors, of which a run without sectors takes the first
-abbrev pub sectors_of : Domain → ℕ
-sectors_of domain = 2 ^ dimensions_of domain.lattice.style
+abbrev pub one_rank : Triple
+one_rank = record { x = 1; y = 1; z = 1 }
 
--- a run on one rank
-abbrev pub job : Application → RunSettings → Domain → Job
-job application settings domain = record {
-  sector = λ rank sector. whole_lattice application (rule_of settings.solver) domain.lattice;
-  ranks = 1;
-  streams_each = sectors_of domain;
+-- a run on one rank, with one sector
+abbrev pub job : Kinetics → RunSettings → Domain → Job
+job kinetics settings domain = record {
+  kinetics = kinetics;
+  boxes = whole_of (record { lattice = domain.lattice; ranks = one_rank });
   settings = settings;
   values = domain.values;
   streams = domain.streams;
@@ -39,22 +34,22 @@ domain_with domain ticks state = record domain {
 }
 
 -- the box after so many cycles
-unfoldable pub domain_at : Application → RunSettings → Domain → ℕ → Domain
-domain_at application settings domain done = domain_with domain (elapsed settings done) (global_state (job application settings domain) (done * settings.sectors))
+unfoldable pub domain_at : Kinetics → RunSettings → Domain → ℕ → Domain
+domain_at kinetics settings domain done = domain_with domain (elapsed settings done) (global_state (job kinetics settings domain) (done * settings.sectors))
 
-abbrev pub domain_after : Application → RunSettings → Domain → Domain
-domain_after application settings domain = domain_with domain settings.length (global_state (job application settings domain) (steps settings))
+abbrev pub domain_after : Kinetics → RunSettings → Domain → Domain
+domain_after kinetics settings domain = domain_with domain settings.length (global_state (job kinetics settings domain) (steps settings))
 
 -- the line of statistics of a box
 abbrev pub line_of : Domain → StatsLine
 line_of domain = record { time = domain.time; counts = domain.counts; sweeps = domain.sweeps }
 
-abbrev pub mark_text : Application → RunSettings → Domain → ℕ → List ℕ
-mark_text application settings domain done = statistics_text (line_of (domain_at application settings domain done))
+abbrev pub mark_text : Kinetics → RunSettings → Domain → ℕ → List ℕ
+mark_text kinetics settings domain done = statistics_text (line_of (domain_at kinetics settings domain done))
 
 -- a header, and then a line at each mark
-abbrev pub run_texts : Application → RunSettings → Domain → List (List ℕ)
-run_texts application settings domain = header_text ∷ map (mark_text application settings domain) (marks settings)
+abbrev pub run_texts : Kinetics → RunSettings → Domain → List (List ℕ)
+run_texts kinetics settings domain = header_text ∷ map (mark_text kinetics settings domain) (marks settings)
 
-abbrev pub runs : Option (List ℕ) → Application → RunSettings → Domain → Effect Domain
-runs log application settings domain = prints_all log (run_texts application settings domain) >> answers (domain_after application settings domain)
+abbrev pub runs : Option (List ℕ) → Kinetics → RunSettings → Domain → Effect Domain
+runs log kinetics settings domain = prints_all log (run_texts kinetics settings domain) >> answers (domain_after kinetics settings domain)

@@ -6,11 +6,11 @@ ghost use Rattle.spk_run.specs.Applications.{application_of, rules_of};
 ghost use Rattle.spk_run.specs.Output.{prints_all};
 ghost use Rattle.spk_run.specs.Runs.{run_texts, domain_after};
 ghost use Rattle.spk_run.specs.Running.{IsRunnable};
-ghost use Rattle.spk_run.specs.Solvers.{style_of};
+ghost use Rattle.spk_sched.specs.Globals.{kinetics_of};
+ghost use Rattle.spk_run.specs.Solvers.{rule_of, style_of};
 ghost use Rattle.spk_run.specs.Endings.{target_stop};
 
 use crate::domain::Domain;
-use crate::plan::Plan;
 use crate::run::run;
 use crate::running::{Finished, RunRoom};
 use spk_app::App;
@@ -18,6 +18,7 @@ use spk_cmds::AppStyle;
 use spk_diffusion::Diffusion;
 use spk_lattice::Lattice;
 use spk_potts::{Ising, Potts};
+use spk_sched::Plan;
 use spk_world::World;
 use std::marker::Brand;
 use std::sync::ledger::Blank;
@@ -84,10 +85,10 @@ impl AnyApplication {
     ) -> Finished
         requires one_sector { plan.now.sectors ≡ 1 }
         requires runnable { IsRunnable (rules_of self) domain room }
-        requires solver { style_of room.solver ≡ plan.now.solver }
-        requires fits { domain.time + plan.now.length < 2 ^ 64 }
-        ensures domain { result.domain ≡ domain_after (rules_of self) plan.now domain }
-        ensures wrote { Wrote target_stop (W.state world.old) (W.state world.new) (prints_all room.output.log (run_texts (rules_of self) plan.now domain)) result.written }
+        requires start { plan.now.start ≡ domain.time }
+        ensures domain { result.domain ≡ domain_after (kinetics_of (rules_of self) (rule_of (style_of room.solver))) plan.now domain }
+        ensures wrote { Wrote target_stop (W.state world.old) (W.state world.new)
+            (prints_all room.output.log (run_texts (kinetics_of (rules_of self) (rule_of (style_of room.solver))) plan.now domain)) result.written }
     {
         let blank = Blank::new(1);
         match self {

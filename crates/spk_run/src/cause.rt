@@ -1,11 +1,12 @@
 //! The causes for which a script is refused, and the faults that they come from.
 
 ghost use Rattle.std.specs.Prelude.{◌≡◌, IfOk, IfSome};
-ghost use Rattle.spk_run.specs.Causes.{IsOfState, line_cause, words_cause, lattice_cause, shape_cause};
+ghost use Rattle.spk_run.specs.Causes.{IsOfState, line_cause, words_cause, lattice_cause, plan_cause, shape_cause};
 
 use spk_cmds::CommandFault;
 use spk_lattice::{LatticeFault, RegionFault};
 use spk_num::text::Text;
+use spk_sched::PlanFault;
 use spk_script::LineFault;
 use std::alloc::{AllocError, Global};
 
@@ -96,6 +97,8 @@ pub enum Cause {
     NoSolver,
     /// The application has no such value as that of this site.
     BadValueForApp(u32),
+    /// A cycle or a run is no whole number of sweeps.
+    NotWhole,
     /// A run has more than 10^9 steps, or ends after 4 * 10^18 ticks.
     RunTooLong,
     /// No file has this name.
@@ -173,6 +176,18 @@ impl Cause {
         match fault {
             LatticeFault::TooSmall(dimension) => Cause::TooSmall(dimension),
             LatticeFault::TooManySites => Cause::TooManySites,
+        }
+    }
+
+    /// The cause that a fault of a plan is. Out of memory is none.
+    pub fn of_plan(fault: PlanFault) -> Option<Cause>
+        ensures cause { result ≡ plan_cause fault }
+        ensures of_state { IfSome result IsOfState }
+    {
+        match fault {
+            PlanFault::NotWhole => Some(Cause::NotWhole),
+            PlanFault::RunTooLong => Some(Cause::RunTooLong),
+            PlanFault::Memory => None,
         }
     }
 }

@@ -53,7 +53,7 @@ impl SessionState {
             Command::CreateBox { region } => self.box_cause(alloc, region),
             Command::CreateSites => Ok(self.sites_cause()),
             Command::Set { region, .. } => self.set_cause(alloc, region),
-            Command::Run { length } => Ok(self.run_cause(ticks_of(*length))),
+            Command::Run { length } => Ok(self.run_cause(alloc, ticks_of(*length))),
             _ => Ok(None),
         }
     }

@@ -3,7 +3,7 @@
 use crate::streams::Streams;
 use crate::values::Values;
 use spk_lattice::Lattice;
-use spk_turn::Counts;
+use spk_sched::Counts;
 
 /// The box, with its lattice and its sites, which have no values before they are made.
 #[derive(Debug, Drop)]

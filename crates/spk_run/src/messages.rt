@@ -55,6 +55,7 @@ fn number(cause: &Cause) -> u32
         Cause::TooManySites => 316,
         Cause::NoSolver => 319,
         Cause::BadValueForApp(_) => 324,
+        Cause::NotWhole => 325,
         Cause::RunTooLong => 326,
         Cause::FileMissing(_) => 401,
     }
@@ -115,6 +116,7 @@ fn text(alloc: Global, cause: &Cause) -> Result<String, AllocError>
         Cause::TooManySites => String::from_str(alloc, "more than 4194304 sites"),
         Cause::NoSolver => String::from_str(alloc, "no solve_style and no sweep"),
         Cause::BadValueForApp(site) => format!(in alloc; "bad value at site {site}"),
+        Cause::NotWhole => String::from_str(alloc, "not a whole number of sweeps"),
         Cause::RunTooLong => String::from_str(alloc, "run too long"),
         Cause::FileMissing(name) => with_word(alloc, "no file ", name),
     }

@@ -2,7 +2,7 @@
 
 ghost use Rattle.std.specs.Prelude.{◌≡◌, ◌+◌, ◌<◌, ◌≤◌, length, All, IfOk, IsTrue};
 ghost use Rattle.spk_lattice.specs.Layout.{sites_of};
-ghost use Rattle.spk_turn.specs.Turns.{no_counts, turn_of};
+ghost use Rattle.spk_sched.specs.Turns.{no_counts, turn_of};
 ghost use Rattle.spk_run.specs.Ranks.{state_of, whole_lattice, IsKept};
 ghost use Rattle.spk_run.specs.Solvers.{rule_of, style_of, room_of};
 
@@ -10,7 +10,7 @@ use crate::solver::AnySolver;
 use spk_app::{App, PlainView, Steps};
 use spk_lattice::Lattice;
 use spk_num::stream::Stream;
-use spk_turn::Counts;
+use spk_sched::Counts;
 use std::sync::ledger::Ledger;
 
 /// The sites of a rank, the solver that keeps their propensities, the stream from which it draws, and its events since the run's start.

@@ -5,19 +5,20 @@ ghost use Rattle.spk_lattice.specs.Layout.{sites_of};
 ghost use Rattle.spk_world.specs.Effects.{Effect};
 ghost use Rattle.spk_world.specs.States.{WorldState};
 ghost use Rattle.spk_app.specs.Applications.{Application};
+ghost use Rattle.spk_solve.specs.Choice.{Rule};
 ghost use Rattle.spk_run.specs.declared.domain.Domain.{Domain as Box};
-ghost use Rattle.spk_run.specs.declared.run_settings.RunSettings.{RunSettings as Settings};
-ghost use Rattle.spk_run.specs.Plans.{cycles, elapsed, window};
+ghost use Rattle.spk_sched.specs.declared.run_settings.RunSettings.{RunSettings as Settings};
+ghost use Rattle.spk_sched.specs.Plans.{IsRun, steps as run_steps, window};
+ghost use Rattle.spk_sched.specs.Globals.{Kinetics as RunKinetics, kinetics_of};
 ghost use Rattle.spk_run.specs.Output.{prints_then};
 ghost use Rattle.spk_run.specs.Runs.{mark_text, domain_after};
 ghost use Rattle.spk_run.specs.Running.{HasDone, HasRoomFor, IsReady, IsRunnable, RunsOn};
-ghost use Rattle.spk_run.specs.Solvers.{style_of};
+ghost use Rattle.spk_run.specs.Solvers.{rule_of, style_of};
 ghost use Rattle.spk_run.specs.Telling.{GoesOnTelling};
 
 use crate::answer::Target;
 use crate::domain::Domain;
 use crate::output::Output;
-use crate::plan::Plan;
 use crate::rank::Rank;
 use crate::solver::AnySolver;
 use crate::statistics::{LINE_ROOM, StatsLine};
@@ -27,7 +28,7 @@ use crate::values::Values;
 use spk_app::{App, Steps};
 use spk_cmds::SolveStyle;
 use spk_lattice::Lattice;
-use spk_turn::Counts;
+use spk_sched::{Counts, Plan};
 use spk_world::World;
 use std::alloc::{AllocError, Global};
 use std::sync::ledger::Ledger;
@@ -45,7 +46,7 @@ pub struct RunRoom {
 #[derive(Debug, Drop)]
 pub struct Running {
     pub lattice: Lattice,
-    /// When the run began, in ticks.
+    /// In ticks.
     pub time: u64,
     pub streams: Streams,
     /// The events before the run.
@@ -92,11 +93,10 @@ impl Running {
         steps: &mut Steps<L>,
     ) -> Running
         requires { IsRunnable (A.rules app.now) domain room }
-        ensures done { (settings : Settings) → style_of room.solver ≡ settings.solver → HasDone (A.rules app.now) settings domain 0 result }
+        ensures done { (settings : Settings) → HasDone (kinetics_of (A.rules app.now) (rule_of (style_of room.solver))) settings domain 0 result }
         ensures output { result.teller.output ≡ room.output }
         ensures written { result.teller.written ≡ Ok tt }
         ensures ready { IsReady (A.rules app.now) (A.PROP + A.STEP) result }
-        ensures time { result.time ≡ domain.time }
     {
         let Domain {
             lattice,
@@ -111,6 +111,7 @@ impl Running {
             line,
             solver,
         } = room;
+        lattice.known();
         let stream = streams.first();
         let rank = Rank::new(app, &lattice, values.into_vec(), stream, solver, steps);
         Running {
@@ -125,33 +126,32 @@ impl Running {
         }
     }
 
-    /// The turn of a cycle, with a window of so many ticks.
+    /// The turn of a step, with a window of so many ticks.
     fn turn<A: App, L: Ledger>(&mut self, app: &A, ticks: u64, steps: &mut Steps<L>)
-        requires { IsReady (A.rules app.now) (A.PROP + A.STEP) self.old }
+        requires ready { IsReady (A.rules app.now) (A.PROP + A.STEP) self.old }
+        requires fits { self.old.time + ticks < 2 ^ 64 }
         ensures ready { IsReady (A.rules app.now) (A.PROP + A.STEP) self.new }
-        ensures time { self.new.time ≡ self.old.time }
-        ensures done { (settings : Settings) (domain : Box) (done : ℕ) → settings.sectors ≡ 1 → ticks ≡ window settings done →
-            HasDone (A.rules app.now) settings domain done self.old → HasDone (A.rules app.now) settings domain (done + 1) self.new }
+        ensures done { (rule : Rule) (settings : Settings) (domain : Box) (done : ℕ) → settings.sectors ≡ 1 → ticks ≡ window settings done →
+            HasDone (kinetics_of (A.rules app.now) rule) settings domain done self.old → HasDone (kinetics_of (A.rules app.now) rule) settings domain (done + 1) self.new }
         ensures teller { self.new.teller ≡ self.old.teller }
     {
         self.rank.turn(app, &self.lattice, ticks, steps);
+        self.time += ticks;
     }
 
-    /// Writes the line of statistics after so many ticks.
-    pub fn tell<W: World>(&mut self, world: &mut W, ticks: u64)
+    /// Writes the line of statistics at the time.
+    pub fn tell<W: World>(&mut self, world: &mut W)
         requires line { 128 ≤ vec_capacity self.old.line }
-        requires fits { self.old.time + ticks < 2 ^ 64 }
         ensures ready { (application : Application) (hops : ℕ) → IsReady application hops self.old → IsReady application hops self.new }
-        ensures done { (application : Application) (settings : Settings) (domain : Box) (done : ℕ) →
-            HasDone application settings domain done self.old → HasDone application settings domain done self.new }
-        ensures telling { (application : Application) (settings : Settings) (domain : Box) (done : ℕ) (start : WorldState) (log : Option (List ℕ)) (whole rest : Effect (Unit {0})) →
-            settings.sectors ≡ 1 → ticks ≡ elapsed settings done → HasDone application settings domain done self.old →
-            GoesOnTelling start (W.state world.old) log self.old.teller whole (prints_then log (mark_text application settings domain done) rest) →
+        ensures done { (kinetics : RunKinetics) (settings : Settings) (domain : Box) (done : ℕ) →
+            HasDone kinetics settings domain done self.old → HasDone kinetics settings domain done self.new }
+        ensures telling { (kinetics : RunKinetics) (settings : Settings) (domain : Box) (done : ℕ) (start : WorldState) (log : Option (List ℕ)) (whole rest : Effect (Unit {0})) →
+            settings.sectors ≡ 1 → HasDone kinetics settings domain done self.old →
+            GoesOnTelling start (W.state world.old) log self.old.teller whole (prints_then log (mark_text kinetics settings domain done) rest) →
             GoesOnTelling start (W.state world.new) log self.new.teller whole rest }
-        ensures time { self.new.time ≡ self.old.time }
     {
         let line = StatsLine {
-            time: self.time + ticks,
+            time: self.time,
             counts: self.counts.plus(self.rank.counts),
             sweeps: self.sweeps,
         };
@@ -159,38 +159,35 @@ impl Running {
         self.teller.tell(world, &self.line);
     }
 
-    /// Goes on with a cycle of its plan.
-    pub fn cycle<W: World, A: App, L: Ledger>(
+    /// Goes on with a step of its plan.
+    pub fn step<W: World, A: App, L: Ledger>(
         &mut self,
         app: &A,
         plan: &Plan,
-        cycle: u64,
+        step: u64,
         steps: &mut Steps<L>,
         world: &mut W,
     )
         requires one_sector { plan.now.sectors ≡ 1 }
         requires ready { IsReady (A.rules app.now) (A.PROP + A.STEP) self.old }
-        requires fits { self.old.time + plan.now.length < 2 ^ 64 }
-        requires cycle { cycle < cycles plan.now }
-        ensures runs { (start : WorldState) (log : Option (List ℕ)) (domain : Box) →
-            RunsOn start (W.state world.old) log (A.rules app.now) plan.now domain cycle self.old →
-            RunsOn start (W.state world.new) log (A.rules app.now) plan.now domain (cycle + 1) self.new }
+        requires step { step < run_steps plan.now }
+        requires fits { self.old.time + window plan.now step < 2 ^ 64 }
+        ensures runs { (start : WorldState) (log : Option (List ℕ)) (rule : Rule) (domain : Box) →
+            RunsOn start (W.state world.old) log (kinetics_of (A.rules app.now) rule) plan.now domain step self.old →
+            RunsOn start (W.state world.new) log (kinetics_of (A.rules app.now) rule) plan.now domain (step + 1) self.new }
         ensures ready { IsReady (A.rules app.now) (A.PROP + A.STEP) self.new }
-        ensures time { self.new.time ≡ self.old.time }
     {
-        let done = plan.elapsed(cycle + 1);
-        self.turn(app, done.saturating_sub(plan.elapsed(cycle)), steps);
-        if plan.is_mark(cycle) {
-            self.tell(world, done);
+        self.turn(app, plan.window(step), steps);
+        if plan.mark_after(step) {
+            self.tell(world);
         }
     }
 
-    /// The box after a run of so many ticks.
-    pub fn finish(self, ticks: u64) -> Finished
-        requires fits { self.time + ticks < 2 ^ 64 }
-        requires limit { length self.rank.view.values ≤ 4194304 }
-        ensures domain { (application : Application) (settings : Settings) (domain : Box) → settings.sectors ≡ 1 → settings.length ≡ ticks →
-            HasDone application settings domain (cycles settings) self → result.domain ≡ domain_after application settings domain }
+    /// The box after all steps of a run.
+    pub fn finish(self) -> Finished
+        requires { length self.rank.view.values ≤ 4194304 }
+        ensures domain { (kinetics : RunKinetics) (settings : Settings) (domain : Box) → settings.sectors ≡ 1 → IsRun settings →
+            HasDone kinetics settings domain (run_steps settings) self → result.domain ≡ domain_after kinetics settings domain }
         ensures written { result.written ≡ self.teller.written }
     {
         let Running {
@@ -206,7 +203,7 @@ impl Running {
         streams.set_first(rank.stream);
         let domain = Domain {
             lattice,
-            time: time + ticks,
+            time,
             values: Values::of(rank.view.into_values()),
             streams,
             counts: counts.plus(rank.counts),

@@ -2,15 +2,16 @@
 
 ghost use Rattle.std.specs.Prelude.{◌≡◌, ◌+◌, ◌≤◌, length, IfOk};
 ghost use Rattle.spk_turn.specs.Ready.{IsReady, whole_view, propensities_in};
-ghost use Rattle.spk_turn.specs.Turns.{turn_of};
+ghost use Rattle.spk_sched.specs.Turns.{turn_of};
 ghost use Rattle.spk_run.specs.Solvers.{rule_of, style_of, list_of, room_of};
 
 use spk_app::{App, Steps, View};
 use spk_cmds::SolveStyle;
 use spk_num::stream::Stream;
+use spk_sched::Counts;
 use spk_solve::{Group, Linear, Tree};
+use spk_turn::fill;
 use spk_turn::turn::turn;
-use spk_turn::{Counts, fill};
 use std::alloc::{AllocError, Global};
 use std::sync::ledger::Ledger;
 

@@ -5,7 +5,7 @@ ghost use Rattle.spk_run.specs.Statistics.{statistics_text};
 
 use itoa::Buffer;
 use spk_num::decimal_text::print_ticks;
-use spk_turn::Counts;
+use spk_sched::Counts;
 
 /// Room for a line of statistics.
 pub const LINE_ROOM: usize = 128;

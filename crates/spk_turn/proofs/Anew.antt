@@ -7,7 +7,7 @@ use Rattle.std.specs.Prelude.{Contains}
 use Rattle.spk_lattice.specs.Hops.{IsWithin}
 use Rattle.spk_app.specs.Sights.{Sight}
 use Rattle.spk_app.specs.Applications.{Application, propensity}
-use Rattle.spk_turn.specs.Turns.{propensities}
+use Rattle.spk_sched.specs.Turns.{propensities}
 use Rattle.spk_solve.specs.Choice.{Rule}
 use Rattle.spk_turn.specs.Ready.{whole_view, propensities_in}
 

@@ -9,7 +9,7 @@ use Rattle.spk_app.specs.Sights.{Sight, written}
 use Rattle.spk_app.specs.Applications.{Application, Event, propensity}
 use Rattle.spk_solve.specs.declared.solver.Chosen.{Chosen}
 use Rattle.spk_solve.specs.Choice.{Rule, RunningSum, Bins, Chooses, named_from, named, IsNamed, target_of, bin_choice}
-use Rattle.spk_turn.specs.Turns.{SiteEvent, at_site, weight_of, all_events, propensities, after_event_of, event_by}
+use Rattle.spk_sched.specs.Turns.{SiteEvent, at_site, weight_of, all_events, propensities, after_event_of, event_by}
 use Rattle.spk_turn.specs.Ready.{whole_view, propensities_in}
 use Rattle.spk_turn.proofs.Anew.{propensities_are}
 use Rattle.spk_solve.proofs.Names.{here, passed, here_or_passed}

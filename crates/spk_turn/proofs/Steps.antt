@@ -1,10 +1,10 @@
 -- A turn, one event at a time.
 use Rattle.std.proofs.Common.{◌≡◌, ℕ, zero, suc, ◌+◌, ◌-◌, ◌<◌, ◌≤◌, ◌==◌, nat_le, true, false, eq-eqb, List, length, sum, refl, sym, ap, ◌∙◌, arith}
 use Rattle.std.proofs.lemmas.Bool.Decides.{nat_tests}
-use Rattle.spk_turn.specs.declared.counts.Counts.{Counts}
+use Rattle.spk_sched.specs.declared.counts.Counts.{Counts}
 use Rattle.spk_num.specs.Draws.{next_state}
 use Rattle.spk_num.specs.Logarithm.{wait_of}
-use Rattle.spk_turn.specs.Turns.{Sector, RankState, propensities, total, wait_before, stream_after, stream_by, with_accepted, after_event, after_event_of, event_by, turn_from}
+use Rattle.spk_sched.specs.Turns.{Sector, RankState, propensities, total, wait_before, stream_after, stream_by, with_accepted, after_event, after_event_of, event_by, turn_from}
 use Rattle.spk_solve.specs.declared.solver.Chosen.{Chosen}
 use Rattle.spk_solve.specs.Choice.{Rule, RunningSum, Bins, Chooses}
 use Rattle.spk_app.specs.Sights.{Sight}

@@ -5,7 +5,7 @@ use Rattle.spk_lattice.specs.Hops.{IsMutual, ReachesAtMost}
 use Rattle.spk_app.specs.Sights.{Sight}
 use Rattle.spk_app.specs.Applications.{Application, propensity}
 use Rattle.spk_solve.specs.Choice.{Rule}
-use Rattle.spk_turn.specs.Turns.{Sector, all_places}
+use Rattle.spk_sched.specs.Turns.{Sector, all_places}
 
 -- Neighbours are neighbours both ways and in the view, each value is valid, and so many hops lead to few places.
 pub record IsReady (app : Application) (whole : ℕ → Bool) (hops : ℕ) (sight : Sight) : Type 0 where

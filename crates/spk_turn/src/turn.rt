@@ -3,16 +3,16 @@
 ghost use Rattle.std.specs.Prelude.{◌≡◌, ℕ, suc, ◌+◌, ◌<◌, length, IfSome, IfNone};
 ghost use Rattle.spk_app.specs.Applications.{propensity};
 ghost use Rattle.spk_solve.specs.Choice.{Chooses};
-ghost use Rattle.spk_turn.specs.declared.counts.Counts.{Counts as EventCounts};
-ghost use Rattle.spk_turn.specs.Turns.{event_by, after_event_of, with_accepted, turn_from, turn_of};
+ghost use Rattle.spk_sched.specs.declared.counts.Counts.{Counts as EventCounts};
+ghost use Rattle.spk_sched.specs.Turns.{event_by, after_event_of, with_accepted, turn_from, turn_of};
 ghost use Rattle.spk_turn.specs.Ready.{IsReady, whole_view, propensities_in};
 
-use crate::counts::Counts;
 use crate::mark::mark_of;
 use crate::refresh::refresh;
 use spk_app::{App, Steps, View};
 use spk_num::logarithm::wait;
 use spk_num::stream::Stream;
+use spk_sched::Counts;
 use spk_solve::{Chosen, Solver};
 use std::sync::ledger::Ledger;
 

@@ -14,9 +14,10 @@ use Rattle.spk_lattice.specs.Regions.{place_of, block_named}
 use Rattle.spk_run.specs.declared.state.LatticeStyle.{LatticeStyle}
 use Rattle.spk_run.specs.declared.domain.Domain.{Domain}
 use Rattle.spk_run.specs.declared.state.SessionState.{SessionState}
-use Rattle.spk_turn.specs.Turns.{no_counts}
+use Rattle.spk_sched.specs.Turns.{no_counts}
 use Rattle.spk_run.specs.States.{first_of, missing, already, error_of}
 use Rattle.spk_run.specs.Streams.{streams_of}
+use Rattle.spk_sched.specs.Globals.{streams_each}
 
 -- the bounds of a dimension
 abbrev pub low : Block → ℕ → Bound
@@ -80,7 +81,7 @@ new_domain seed layout = record {
   lattice = layout;
   time = 0;
   values = [];
-  streams = streams_of seed (2 ^ dimensions_of layout.style) (2 ^ dimensions_of layout.style);
+  streams = streams_of seed (streams_each layout) (streams_each layout);
   counts = no_counts;
   sweeps = 0;
 }

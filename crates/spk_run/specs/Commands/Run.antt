@@ -1,19 +1,23 @@
 -- `run`: it is refused for the first cause that holds, and else runs the sites of the box.
-use Rattle.std.specs.Prelude.{ℕ, ◌+◌, not, List, [], ◌∷◌, Option, Some, None, unwrap_or, Result, Ok}
+use Rattle.std.specs.Prelude.{ℕ, ◌+◌, not, List, [], ◌∷◌, Option, Some, None, unwrap_or, option_and_then, Result, Ok}
 use Rattle.std.specs.Option.{option_map}
 use Rattle.std.specs.List.{position}
 use Rattle.spk_world.specs.Effects.{Effect, ◌>>=◌, answers}
 use Rattle.spk_run.specs.declared.cause.Cause.{Cause}
-use Rattle.spk_run.specs.declared.cause.Cause.TheVariants.{NoApp, NoLattice, NoBox, NoSites, NoSolver, BadValueForApp, RunTooLong}
+use Rattle.spk_run.specs.declared.cause.Cause.TheVariants.{NoApp, NoLattice, NoBox, NoSites, NoSolver, BadValueForApp}
 use Rattle.spk_run.specs.declared.domain.Domain.{Domain}
-use Rattle.spk_run.specs.declared.run_settings.Cycle.TheVariants.{Nstop}
-use Rattle.spk_run.specs.declared.run_settings.RunSettings.{RunSettings}
+use Rattle.spk_sched.specs.declared.run_settings.Cycle.TheVariants.{Nstop}
+use Rattle.spk_sched.specs.declared.run_settings.RunSettings.{RunSettings}
 use Rattle.spk_run.specs.declared.state.SessionState.{SessionState}
 use Rattle.spk_app.specs.Applications.{Application}
 use Rattle.spk_cmds.specs.declared.command.AppStyle.{AppStyle}
+use Rattle.spk_cmds.specs.declared.command.SolveStyle.{SolveStyle}
 use Rattle.spk_cmds.specs.declared.command.SolveStyle.TheVariants.{Linear}
 use Rattle.spk_run.specs.Applications.{application_of}
-use Rattle.spk_run.specs.Plans.{is_too_long}
+use Rattle.spk_sched.specs.Plans.{plan_fault}
+use Rattle.spk_sched.specs.Globals.{Kinetics, kinetics_of}
+use Rattle.spk_run.specs.Causes.{plan_cause}
+use Rattle.spk_run.specs.Solvers.{rule_of}
 use Rattle.spk_run.specs.Runs.{runs}
 use Rattle.spk_run.specs.States.{first_of, if_so, missing, are_made}
 
@@ -21,8 +25,7 @@ use Rattle.spk_run.specs.States.{first_of, if_so, missing, are_made}
 abbrev pub application_on : SessionState → AppStyle → Domain → Application
 application_on state style domain = application_of style domain.lattice.style state.temperature
 
--- Without `sector`, a cycle has one step and takes the time in which the readiest site has one event on the average. Without a
--- solver a run is refused.
+-- Without `sector`, a cycle has one step and takes the time in which the readiest site has one event on the average.
 abbrev pub settings_of : SessionState → ℕ → Application → Domain → RunSettings
 settings_of state length application domain = record {
   start = domain.time;
@@ -30,10 +33,17 @@ settings_of state length application domain = record {
   cycle = Nstop 1000000;
   largest = application.largest;
   sectors = 1;
-  solver = unwrap_or state.solver Linear;
   sweep = None;
   stats = state.stats;
+  dumps = [];
 }
+
+-- Without a solver a run is refused.
+abbrev pub solver_of : SessionState → SolveStyle
+solver_of state = unwrap_or state.solver Linear
+
+abbrev pub kinetics_in : SessionState → AppStyle → Domain → Kinetics
+kinetics_in state style domain = kinetics_of (application_on state style domain) (rule_of (solver_of state))
 
 -- sites are counted from 1
 abbrev pub bad_value : Application → List ℕ → Option Cause
@@ -41,7 +51,7 @@ bad_value application values = option_map (λ place. BadValueForApp (place + 1))
 
 abbrev pub domain_cause : SessionState → ℕ → Application → Domain → Option Cause
 domain_cause state length application domain =
-    first_of (bad_value application domain.values ∷ if_so (is_too_long (settings_of state length application domain)) RunTooLong ∷ [])
+    first_of (bad_value application domain.values ∷ option_and_then plan_cause (plan_fault (settings_of state length application domain)) ∷ [])
 
 abbrev pub domain_causes : SessionState → ℕ → Option AppStyle → Option Domain → Option Cause
 domain_causes state length (Some style) (Some domain) = domain_cause state length (application_on state style domain) domain
@@ -63,16 +73,16 @@ run_cause state length = first_of (run_causes state length)
 abbrev pub with_domain : SessionState → Domain → SessionState
 with_domain state domain = record state { domain = Some domain }
 
-abbrev pub runs_by : SessionState → Application → RunSettings → Domain → Effect (Result SessionState Cause)
-runs_by state application settings domain = runs state.log application settings domain >>= λ after. answers (Ok (with_domain state after))
+abbrev pub runs_by : SessionState → Kinetics → RunSettings → Domain → Effect (Result SessionState Cause)
+runs_by state kinetics settings domain = runs state.log kinetics settings domain >>= λ after. answers (Ok (with_domain state after))
 
-abbrev pub runs_domain_by : SessionState → Application → RunSettings → Option Domain → Effect (Result SessionState Cause)
-runs_domain_by state application settings None = answers (Ok state)
-runs_domain_by state application settings (Some domain) = runs_by state application settings domain
+abbrev pub runs_domain_by : SessionState → Kinetics → RunSettings → Option Domain → Effect (Result SessionState Cause)
+runs_domain_by state kinetics settings None = answers (Ok state)
+runs_domain_by state kinetics settings (Some domain) = runs_by state kinetics settings domain
 
 abbrev pub runs_domain : SessionState → ℕ → Option AppStyle → Option Domain → Effect (Result SessionState Cause)
 runs_domain state length (Some style) (Some domain) =
-    runs_by state (application_on state style domain) (settings_of state length (application_on state style domain) domain) domain
+    runs_by state (kinetics_in state style domain) (settings_of state length (application_on state style domain) domain) domain
 runs_domain state length style domain = answers (Ok state)
 
 abbrev pub performs_run : SessionState → ℕ → Effect (Result SessionState Cause)

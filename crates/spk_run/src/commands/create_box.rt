@@ -3,7 +3,7 @@
 ghost use Rattle.std.specs.Prelude.{◌≡◌, ◌<◌, ◌^◌, ◌≤◌, Some, IfOk, IfErr, IfSome};
 ghost use Rattle.spk_lattice.specs.Layout.{dimensions_of};
 ghost use Rattle.spk_lattice.specs.Regions.{IsNearBlock};
-ghost use Rattle.spk_run.specs.Runs.{sectors_of};
+ghost use Rattle.spk_sched.specs.Globals.{streams_each};
 ghost use Rattle.spk_run.specs.Causes.{IsOfState};
 ghost use Rattle.spk_run.specs.Commands.CreateBox.{is_zero, is_whole, cells_between, lattice_made, cells_along, layout_in, box_of, box_cause, new_domain, with_box};
 
@@ -18,7 +18,7 @@ use spk_num::decimal::Dec;
 use spk_num::shape::Bound;
 use spk_num::style::Style;
 use spk_num::text::Text;
-use spk_turn::Counts;
+use spk_sched::Counts;
 use std::alloc::{AllocError, Global};
 
 /// So many millionths are one unit.
@@ -110,7 +110,7 @@ fn sector_count(dimensions: u32) -> u32
 impl Domain {
     /// How many sectors each rank has: 2, 4 or 8.
     pub fn sectors(&self) -> u32
-        ensures count { result ≡ sectors_of self.now }
+        ensures count { result ≡ streams_each self.now.lattice }
         ensures some { 1 ≤ result }
         ensures few { result ≤ 8 }
     {

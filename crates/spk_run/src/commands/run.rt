@@ -5,9 +5,9 @@ ghost use Rattle.spk_world.specs.Effects.{Wrote};
 ghost use Rattle.spk_run.specs.Applications.{application_of, rules_of};
 ghost use Rattle.spk_run.specs.Causes.{IsOfState};
 ghost use Rattle.spk_run.specs.Commands.Run.{settings_of, bad_value, domain_cause, run_cause, runs_domain_by, performs_run};
-ghost use Rattle.spk_run.specs.Prepared.{IsPrepared};
+ghost use Rattle.spk_run.specs.Prepared.{IsPrepared, kinetics_for};
+ghost use Rattle.spk_sched.specs.Plans.{IsRun};
 ghost use Rattle.spk_run.specs.Running.{IsRunnable};
-ghost use Rattle.spk_run.specs.Solvers.{style_of};
 ghost use Rattle.spk_run.specs.Faults.{fault_stop, done_to, LeavesDone, WritesAfterMemory};
 
 use crate::application::AnyApplication;
@@ -15,12 +15,11 @@ use crate::cause::Cause;
 use crate::domain::Domain;
 use crate::fault::Fault;
 use crate::output::Output;
-use crate::plan::Plan;
-use crate::run_settings::{Cycle, RunSettings};
 use crate::running::{Finished, RunRoom};
 use crate::state::SessionState;
 use crate::values::Values;
 use spk_cmds::{AppStyle, SolveStyle};
+use spk_sched::{Cycle, Dues, Plan, RunSettings};
 use spk_world::World;
 use std::alloc::{AllocError, Global};
 
@@ -51,26 +50,34 @@ impl SessionState {
         AnyApplication::of(style, &domain.lattice, self.temperature)
     }
 
-    /// The plan of a run of a box for so many ticks.
-    fn plan(&self, length: u64, application: &AnyApplication, domain: &Domain) -> Plan
+    /// The settings of a run of a box for so many ticks. They take no memory.
+    fn settings(
+        &self,
+        alloc: Global,
+        length: u64,
+        application: &AnyApplication,
+        domain: &Domain,
+    ) -> RunSettings
         requires { length ≤ 4000000000000000000 }
-        ensures { result ≡ settings_of self.now length (rules_of application.now) domain.now }
+        ensures settings { result ≡ settings_of self.now length (rules_of application.now) domain.now }
+        ensures run { IsRun result }
     {
-        Plan::new(RunSettings {
+        RunSettings {
             start: domain.time,
             length,
             cycle: Cycle::Nstop(1_000_000),
             largest: application.largest(),
             sectors: 1,
-            solver: self.solver.unwrap_or(SolveStyle::Linear),
             sweep: None,
             stats: self.stats,
-        })
+            dumps: Dues::from_vec(Vec::new(alloc)),
+        }
     }
 
     /// Why an application can't run on a box for so many ticks.
     fn domain_cause(
         &self,
+        alloc: Global,
         length: u64,
         application: &AnyApplication,
         domain: &Domain,
@@ -81,12 +88,15 @@ impl SessionState {
     {
         match bad_value(application, &domain.values) {
             Some(cause) => Some(cause),
-            None if self.plan(length, application, domain).is_too_long() => Some(Cause::RunTooLong),
-            None => None,
+            None => {
+                let settings = self.settings(alloc, length, application, domain);
+                Cause::of_plan(settings.fault()?)
+            }
         }
     }
 
-    pub fn run_cause(&self, length: u64) -> Option<Cause>
+    /// The first cause for which a run is refused. It takes no memory.
+    pub fn run_cause(&self, alloc: Global, length: u64) -> Option<Cause>
         requires { length ≤ 4000000000000000000 }
         ensures cause { result ≡ run_cause self.now length }
         ensures of_state { IfSome result IsOfState }
@@ -106,12 +116,13 @@ impl SessionState {
         if self.solver.is_none() {
             return Some(Cause::NoSolver);
         }
-        self.domain_cause(length, &self.application(style, domain), domain)
+        self.domain_cause(alloc, length, &self.application(style, domain), domain)
     }
 
     /// What a run of the box for so many ticks needs, where there is an application and a box.
     fn prepared(&self, alloc: Global, length: u64) -> Result<Option<Prepared>, AllocError>
         requires short { length ≤ 4000000000000000000 }
+        requires free { run_cause self.now length ≡ None }
         ensures { IfOk result (IsPrepared self.now length) }
     {
         let Some(style) = self.app else {
@@ -121,9 +132,12 @@ impl SessionState {
             return Ok(None);
         };
         let application = self.application(style, domain);
-        let plan = self.plan(length, &application, domain);
+        let settings = self.settings(alloc, length, &application, domain);
+        // No run is refused for its plan here, so there is one or memory is out.
+        let plan = Plan::new(alloc, &settings).map_err(|_| AllocError)?;
         let output = Output::new(alloc, &self.log)?;
-        let room = RunRoom::new(alloc, domain, plan.settings().solver, output)?;
+        let solver = self.solver.unwrap_or(SolveStyle::Linear);
+        let room = RunRoom::new(alloc, domain, solver, output)?;
         Ok(Some(Prepared {
             application,
             plan,
@@ -135,12 +149,11 @@ impl SessionState {
     fn run_with<W: World>(&mut self, prepared: Prepared, world: &mut W) -> Result<(), Fault>
         requires one_sector { prepared.plan.sectors ≡ 1 }
         requires runnable { IfSome self.old.domain (λ domain. IsRunnable (rules_of prepared.application) domain prepared.room) }
-        requires fits { IfSome self.old.domain (λ domain. domain.time + prepared.plan.length < 2 ^ 64) }
-        requires solver { style_of prepared.room.solver ≡ prepared.plan.solver }
+        requires start { IfSome self.old.domain (λ domain. prepared.plan.start ≡ domain.time) }
         requires log { prepared.room.output.log ≡ self.old.log }
-        ensures wrote { Wrote fault_stop (W.state world.old) (W.state world.new) (runs_domain_by self.old (rules_of prepared.application) prepared.plan self.old.domain) (done_to self.new result) }
+        ensures wrote { Wrote fault_stop (W.state world.old) (W.state world.new) (runs_domain_by self.old (kinetics_for prepared) prepared.plan self.old.domain) (done_to self.new result) }
         ensures memory { WritesAfterMemory (W.state world.old).told (W.state world.new).told result }
-        ensures session { LeavesDone (W.state world.old).told (runs_domain_by self.old (rules_of prepared.application) prepared.plan self.old.domain) self.old self.new result }
+        ensures session { LeavesDone (W.state world.old).told (runs_domain_by self.old (kinetics_for prepared) prepared.plan self.old.domain) self.old self.new result }
     {
         let Some(domain) = self.domain.take() else {
             return Ok(());

@@ -1,5 +1,5 @@
 use Rattle.std.proofs.Common.{◌≡◌, ◌+◌, ◌-◌, ◌≤◌, length}
-use Rattle.spk_turn.specs.Turns.{turn_from, turn_of}
+use Rattle.spk_sched.specs.Turns.{turn_from, turn_of}
 use Rattle.spk_turn.specs.Ready.{IsReady, whole_view, propensities_in}
 use Rattle.spk_turn.proofs.Steps.{state_with}
 use Rattle.spk_turn.proofs.turn.turn.Given as goal

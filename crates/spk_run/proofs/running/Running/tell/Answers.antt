@@ -6,15 +6,16 @@ use Rattle.spk_run.specs.Runs.{mark_text}
 use Rattle.spk_run.proofs.running.Running.tell.Goals as goal
 
 pub returns-clause-telling : goal.returns-clause-telling
-returns-clause-telling g c = λ application settings domain done start log whole rest one elapsed_is has on.
-    let text : mark_text application settings domain done ≡ c.deref.result.now =
-    told_text application settings domain done c.args.ticks c.args.self.now one elapsed_is has ∙ sym (c.deref.ensures.value ∙ (rw c.plus.ensures at c.write.ensures.text)) in
+returns-clause-telling g c = λ kinetics settings domain done start log whole rest one has on.
+    let text : mark_text kinetics settings domain done ≡ c.deref.result.now =
+    told_text kinetics settings domain done c.args.self.now one has ∙ sym (c.deref.ensures.value ∙ (rw c.plus.ensures at c.write.ensures.text)) in
     c.tell.ensures start log whole rest (subst (λ (t : List ℕ). GoesOnTelling start (g.W.World.state c.args.world.now) log c.args.self.now.teller whole (prints_then log t rest)) text on)
 
 pub returns-clause-done : goal.returns-clause-done
-returns-clause-done g c = λ application settings domain done has. record {
-  keeps = record { lattice = has.keeps.lattice; time = has.keeps.time; streams = has.keeps.streams; counts = has.keeps.counts; sweeps = has.keeps.sweeps; some_stream = has.keeps.some_stream; line = c.write.ensures.room };
-  solver = has.solver;
+returns-clause-done g c = λ kinetics settings domain done has. record {
+  keeps = record { lattice = has.keeps.lattice; streams = has.keeps.streams; counts = has.keeps.counts; sweeps = has.keeps.sweeps; on = has.keeps.on; some_stream = has.keeps.some_stream; line = c.write.ensures.room };
+  time = has.time;
+  rule = has.rule;
   state = has.state;
 }
 

@@ -1,4 +1,4 @@
-use Rattle.spk_run.proofs.CommandSteps.{done_out_of_memory, runnable_for}
+use Rattle.spk_run.proofs.CommandSteps.{done_out_of_memory, runnable_for, starts_for}
 use Rattle.spk_run.proofs.state.SessionState.run.Goals as goal
 
 pub returns-in_err-prepared-clause-wrote : goal.returns-in_err-prepared-clause-wrote
@@ -6,3 +6,6 @@ returns-in_err-prepared-clause-wrote g c = done_out_of_memory _ _ c.from_residua
 
 pub run_with-requires-clause-runnable : goal.run_with-requires-clause-runnable
 run_with-requires-clause-runnable g c = runnable_for c.args.self.now c.args.length c.in-Some.prepared (rw c.in-Some.is at c.in_ok-prepared.ensures) c.requires.free
+
+pub run_with-requires-clause-start : goal.run_with-requires-clause-start
+run_with-requires-clause-start g c = starts_for c.args.self.now c.args.length c.in-Some.prepared (rw c.in-Some.is at c.in_ok-prepared.ensures)

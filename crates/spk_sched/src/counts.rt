@@ -1,7 +1,7 @@
 //! Counts of events.
 
 ghost use Rattle.std.specs.Prelude.{◌≡◌};
-ghost use Rattle.spk_turn.specs.Turns.{counts_sum, no_counts, with_accepted};
+ghost use Rattle.spk_sched.specs.Turns.{counts_sum, no_counts, with_accepted};
 
 /// How many events were accepted, and how many rejected. A count that would pass 2^64 - 1 stays there.
 #[derive(Clone, Copy, Debug, PartialEq, Eq)]

@@ -8,7 +8,7 @@ use Rattle.spk_num.specs.Logarithm.{wait_of}
 use Rattle.spk_app.specs.Sights.{Sight, written}
 use Rattle.spk_app.specs.Applications.{Application, Event, propensity}
 use Rattle.spk_solve.specs.Choice.{Rule, RunningSum, Bins, Choice, named, target_of, two_draws, bin_choice}
-use Rattle.spk_turn.specs.declared.counts.Counts.{Counts}
+use Rattle.spk_sched.specs.declared.counts.Counts.{Counts}
 
 -- what a turn is of: an application, a rule by which events are chosen, the places beside each place, and the places of the
 -- sites that may change, in the order of their ids

@@ -1,0 +1,3 @@
+pub mod OneRank
+pub mod PlanLaws
+pub mod Rings

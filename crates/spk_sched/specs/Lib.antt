@@ -1,0 +1,5 @@
+pub mod Rings
+pub mod Decompositions
+pub mod Plans
+pub mod Turns
+pub mod Globals

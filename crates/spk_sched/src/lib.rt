@@ -1,0 +1,18 @@
+//! What a run does and when: the boxes of ranks and sectors, the plan of cycles and marks, and the counts of events.
+#![tactic(auto)]
+
+pub mod counts;
+pub mod dues;
+pub mod grid;
+mod part;
+pub mod plan;
+pub mod run_settings;
+pub mod sectors;
+
+pub use counts::Counts;
+pub use dues::{Due, Dues};
+pub use grid::{Grid, GridFault};
+pub use plan::{Plan, PlanFault};
+pub use run_settings::{Cycle, RunSettings};
+pub use sectors::Sectors;
+pub use spk_num::sweep::Sweep;
