@@ -1,0 +1,7 @@
+//! Patches: the sites of a rank with their values, as applications see them.
+#![tactic(auto)]
+
+pub mod patch;
+
+pub use patch::Patch;
+pub use spk_lattice::Cells;
