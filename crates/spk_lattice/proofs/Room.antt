@@ -11,7 +11,7 @@ grow a (suc k) some = let e : a * suc k ≡ a * k + a = grind arith in omega (ar
 grow_left : (a b : ℕ) → 0 < b → a ≤ b * a
 grow_left a b some = let e : b * a ≡ a * b = grind arith in omega (arith, e, grow a b some)
 
-wide : (a b c : ℕ) → b ≤ c → a * b ≤ a * c
+pub wide : (a b c : ℕ) → b ≤ c → a * b ≤ a * c
 wide a b c less =
     let e : a * c ≡ a * b + a * (c - b) = (let split : c ≡ b + (c - b) = omega arith in subst (λ w. a * w ≡ a * b + a * (c - b)) (sym split) (grind arith)) in
     omega (arith, e)
@@ -25,7 +25,7 @@ pub record IsSmall (points nx ny x y z b most : ℕ) : Type 0 where
   pub cells : points * (x + nx * (y + ny * z)) ≤ most
   pub id : 1 + b + points * (x + nx * (y + ny * z)) ≤ most
 
-small : (points nx ny x y z b most : ℕ) → 0 < points → 0 < nx → 1 + b + points * (x + nx * (y + ny * z)) ≤ most → IsSmall points nx ny x y z b most
+pub small : (points nx ny x y z b most : ℕ) → 0 < points → 0 < nx → 1 + b + points * (x + nx * (y + ny * z)) ≤ most → IsSmall points nx ny x y z b most
 small points nx ny x y z b most some_points some_x id =
     let cells : points * (x + nx * (y + ny * z)) ≤ most = omega arith in
     let cell : x + nx * (y + ny * z) ≤ most = omega (arith, grow_left (x + nx * (y + ny * z)) points some_points) in

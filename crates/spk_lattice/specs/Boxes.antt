@@ -82,3 +82,14 @@ pub record IsBoxOf (l : Layout) (cells : Cells) : Type 0 where
   pub x : IsInterval l.nx (interval_at cells 0)
   pub y : IsInterval l.ny (interval_at cells 1)
   pub z : IsInterval l.nz (interval_at cells 2)
+
+-- cells of a dimension, and maybe none
+pub record IsSpan (n : ℕ) (along : Interval) : Type 0 where
+  pub ordered : along.from ≤ along.to
+  pub within : along.to ≤ n
+
+-- a box of the lattice's own cells, which may be empty
+pub record IsBoxIn (l : Layout) (b : CellBox) : Type 0 where
+  pub x : IsSpan l.nx b.x
+  pub y : IsSpan l.ny b.y
+  pub z : IsSpan l.nz b.z

@@ -17,4 +17,4 @@ pub use neighbours::Neighbours;
 pub use place::Place;
 pub use regions::{Block, RegionFault, Regions};
 pub use spk_num::{Bound, Shape, Style};
-pub use style_row::dimensions;
+pub use style_row::{basis_points, dimensions};

@@ -1,7 +1,7 @@
 //! What is particular to each style: the one table that knows them.
 
 ghost use Rattle.std.specs.Prelude.{◌≡◌, ◌≤◌};
-ghost use Rattle.spk_lattice.specs.Layout.{dimensions_of};
+ghost use Rattle.spk_lattice.specs.Layout.{basis_of, dimensions_of};
 ghost use Rattle.spk_lattice.specs.Styles.{row_of};
 
 use spk_num::Style;
@@ -99,6 +99,14 @@ pub fn style_row(style: Style) -> StyleRow
             ],
         },
     }
+}
+
+/// How many sites a cell has.
+pub fn basis_points(style: Style) -> u32
+    ensures count { result ≡ basis_of style }
+    ensures few { result ≤ 4 }
+{
+    style_row(style).basis.len() as u32
 }
 
 /// How many dimensions a style uses: x alone, x and y, or all three.
