@@ -1,3 +1,6 @@
+pub mod CountLaws
+pub mod DueLaws
 pub mod OneRank
 pub mod PlanLaws
 pub mod Rings
+pub mod SweepLaws

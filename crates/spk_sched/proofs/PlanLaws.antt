@@ -74,17 +74,20 @@ marks_skip settings cycle below marked =
 pub marks_none : (settings : RunSettings) (cycle : ℕ) → cycles settings ≤ cycle → marks_from settings cycle ≡ []
 marks_none settings cycle past = let none : cycles settings - cycle ≡ 0 = omega arith in rw none refl
 
--- a run with a plan ends before the last number of 64 bits
-whole_or_not : (settings : RunSettings) → plan_fault settings ≡ None → is_too_long settings ≡ false
-whole_or_not settings none =
+-- a run with a plan has no fault: with sweeps it takes whole ones, and it ends before the last number of 64 bits
+pub whole_plan : (settings : RunSettings) → plan_fault settings ≡ None → is_whole settings ≡ true
+whole_plan settings none =
     elim (cases_Bool (is_whole settings)) [
-      | inl whole ↦
-          elim (cases_Bool (is_too_long settings)) [
-            | inl long ↦ let some : plan_fault settings ≡ Some RunTooLong = rw (whole, long) refl in absurd (cc (some, none))
-            | inr short ↦ short
-          ]
+      | inl whole ↦ whole
       | inr not_whole ↦ let some : plan_fault settings ≡ Some NotWhole = rw not_whole refl in absurd (cc (some, none))
     ]
 
+short_plan : (settings : RunSettings) → plan_fault settings ≡ None → is_too_long settings ≡ false
+short_plan settings none =
+    elim (cases_Bool (is_too_long settings)) [
+      | inl long ↦ let some : plan_fault settings ≡ Some RunTooLong = rw (whole_plan settings none, long) refl in absurd (cc (some, none))
+      | inr short ↦ short
+    ]
+
 pub in_time : (settings : RunSettings) → plan_fault settings ≡ None → settings.start + settings.length < 2 ^ 64
-in_time settings none = let short : is_too_long settings ≡ false = whole_or_not settings none in grind (arith, nat_tests)
+in_time settings none = let short : is_too_long settings ≡ false = short_plan settings none in grind (arith, nat_tests)

@@ -10,7 +10,7 @@ use Rattle.spk_sched.specs.declared.counts.Counts.{Counts}
 use Rattle.spk_sched.specs.declared.run_settings.RunSettings.{RunSettings}
 use Rattle.spk_sched.specs.Decompositions.{Decomposition, rank_count, sector_box}
 use Rattle.spk_sched.specs.Plans.{sector_at, window}
-use Rattle.spk_sched.specs.Turns.{Sector, RankState, turn_of, no_counts}
+use Rattle.spk_sched.specs.Turns.{Sector, RankState, turn_by, no_counts}
 
 -- the values of all sites, the streams by rank and then by sector, and for each rank the events since the run's start
 pub record GlobalState : Type 0 where
@@ -77,7 +77,7 @@ with_rank_state job step rank state turned = record {
 -- the turn of a rank
 abbrev pub after_rank : Job → ℕ → ℕ → GlobalState → GlobalState
 after_rank job step rank state =
-    with_rank_state job step rank state (turn_of (sector_of job rank (sector_at job.settings step)) (window job.settings step) (rank_state job step rank state))
+    with_rank_state job step rank state (turn_by job.settings.sweep (sector_of job rank (sector_at job.settings step)) (window job.settings step) (rank_state job step rank state))
 
 -- the turns of the first so many ranks, one after another
 abbrev pub after_ranks : Job → ℕ → ℕ → GlobalState → GlobalState

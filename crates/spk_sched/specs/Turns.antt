@@ -1,12 +1,14 @@
--- A turn: events of the sites of a sector, one after another, by the kinetic Monte Carlo rule of SPPARKS's manual. The order of
--- sites and events, the draws and the waiting times are our own rules.
-use Rattle.std.specs.Prelude.{ℕ, zero, suc, ◌+◌, ◌-◌, ◌^◌, ◌==◌, nat_le, if◌then◌else◌, min, List, map, sum, flat_map, slice_index, Option, Some, None, option_and_then}
+-- Turns of the sites of a sector: events, one after another, by the kinetic Monte Carlo rule of SPPARKS's manual, and sweeps of
+-- trials. The order of sites and events, the draws and the waiting times are our own rules.
+use Rattle.std.specs.Prelude.{ℕ, zero, suc, ◌+◌, ◌-◌, ◌/◌, ◌^◌, ◌≤◌, ◌==◌, nat_le, if◌then◌else◌, Bool, min, List, map, length, sum, flat_map, slice_index, Option, Some, None, option_and_then}
 use Rattle.std.specs.Option.{option_map_or}
 use Rattle.std.specs.List.{range_with_len}
-use Rattle.spk_num.specs.Draws.{next_state}
+use Rattle.spk_num.specs.declared.sweep.Sweep.{Sweep}
+use Rattle.spk_num.specs.declared.sweep.Sweep.TheVariants.{Random}
+use Rattle.spk_num.specs.Draws.{next_state, below_of}
 use Rattle.spk_num.specs.Logarithm.{wait_of}
 use Rattle.spk_app.specs.Sights.{Sight, written}
-use Rattle.spk_app.specs.Applications.{Application, Event, propensity}
+use Rattle.spk_app.specs.Applications.{Application, Event, Trial, propensity}
 use Rattle.spk_solve.specs.Choice.{Rule, RunningSum, Bins, Choice, named, target_of, two_draws, bin_choice}
 use Rattle.spk_sched.specs.declared.counts.Counts.{Counts}
 
@@ -83,6 +85,10 @@ stream_after sector state = next_state (stream_by sector.rule (propensities sect
 abbrev pub wait_before : Sector → RankState → ℕ
 wait_before sector state = wait_of (total sector state.values) (stream_after sector state)
 
+-- both counts fit 64 bits
+abbrev pub IsCount : Counts → Type 0
+IsCount counts = (counts.accepted ≤ 2 ^ 64 - 1) × (counts.rejected ≤ 2 ^ 64 - 1)
+
 -- a count ends at the last value of 64 bits
 abbrev pub counts_sum : Counts → Counts → Counts
 counts_sum some more = record { accepted = min (some.accepted + more.accepted) (2 ^ 64 - 1); rejected = min (some.rejected + more.rejected) (2 ^ 64 - 1) }
@@ -113,3 +119,48 @@ turn_from sector (suc more) window local state =
 -- a turn with a window of so many ticks: each event takes one at least, so no more of them are done
 abbrev pub turn_of : Sector → ℕ → RankState → RankState
 turn_of sector window state = turn_from sector window window 0 state
+
+-- A picked site, by its place, and the stream after the pick.
+pub record Pick : Type 0 where
+  pub place : ℕ
+  pub stream : ℕ
+
+-- The k-th pick of a sweep: a raster goes through the sites in the order of their ids, and a random one draws one of them.
+abbrev pub pick_by : Sweep → List ℕ → ℕ → ℕ → Pick
+pick_by Random places k stream = record { place = slice_index places (below_of (length places) (next_state stream)); stream = next_state stream }
+pick_by style places k stream = record { place = slice_index places k; stream = stream }
+
+abbrev pub with_rejected : Counts → Counts
+with_rejected counts = record counts { rejected = min (counts.rejected + 1) (2 ^ 64 - 1) }
+
+-- a trial is accepted where the value changed
+abbrev pub with_trial : Bool → Counts → Counts
+with_trial changed counts = if changed then with_accepted counts else with_rejected counts
+
+abbrev pub trial_at : Sector → RankState → Pick → Trial
+trial_at sector state pick = sector.application.trial (seen sector state.values) pick.place pick.stream
+
+-- after the trial at a picked site
+abbrev pub after_pick : Sector → RankState → Pick → RankState
+after_pick sector state pick =
+    let trial = trial_at sector state pick in
+    record { values = written trial.writes state.values; stream = trial.stream; counts = with_trial trial.changed state.counts }
+
+-- so many picks, from the k-th of a sweep on
+unfoldable pub picks_from : Sweep → Sector → ℕ → ℕ → RankState → RankState
+picks_from style sector zero k state = state
+picks_from style sector (suc more) k state = picks_from style sector more (k + 1) (after_pick sector state (pick_by style sector.places k state.stream))
+
+-- a sweep makes as many picks as the sector has sites
+abbrev pub sweep_of : Sweep → Sector → RankState → RankState
+sweep_of style sector state = picks_from style sector (length sector.places) 0 state
+
+-- so many sweeps, one after another
+unfoldable pub sweeps_of : Sweep → Sector → ℕ → RankState → RankState
+sweeps_of style sector zero state = state
+sweeps_of style sector (suc more) state = sweeps_of style sector more (sweep_of style sector state)
+
+-- a turn: whole sweeps, of 10^9 ticks each, where there is a sweep, and events where there is none
+abbrev pub turn_by : Option Sweep → Sector → ℕ → RankState → RankState
+turn_by None sector window state = turn_of sector window state
+turn_by (Some style) sector window state = sweeps_of style sector (window / 1000000000) state

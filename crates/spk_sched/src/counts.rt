@@ -1,7 +1,7 @@
 //! Counts of events.
 
 ghost use Rattle.std.specs.Prelude.{◌≡◌};
-ghost use Rattle.spk_sched.specs.Turns.{counts_sum, no_counts, with_accepted};
+ghost use Rattle.spk_sched.specs.Turns.{counts_sum, no_counts, with_accepted, with_rejected};
 
 /// How many events were accepted, and how many rejected. A count that would pass 2^64 - 1 stays there.
 #[derive(Clone, Copy, Debug, PartialEq, Eq)]
@@ -36,6 +36,13 @@ impl Counts {
         ensures { self.new ≡ with_accepted self.old }
     {
         self.accepted = self.accepted.saturating_add(1);
+    }
+
+    /// Counts one more event that was rejected.
+    pub fn reject(&mut self)
+        ensures { self.new ≡ with_rejected self.old }
+    {
+        self.rejected = self.rejected.saturating_add(1);
     }
 }
 
