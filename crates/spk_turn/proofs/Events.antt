@@ -1,5 +1,5 @@
 -- What an event leaves as it was, and what it keeps.
-use Rattle.std.proofs.Common.{◌≡◌, ℕ, ◌+◌, ◌<◌, List, length, get_or, sym, ap, ◌∙◌, subst, arith}
+use Rattle.std.proofs.Common.{◌≡◌, ℕ, ◌+◌, ◌<◌, List, length, get_or, sym, ap, ◌∙◌, subst}
 use Rattle.std.specs.Prelude.{Bool, IsTrue, All}
 use Rattle.spk_lattice.specs.Hops.{IsWithin}
 use Rattle.spk_app.specs.Sights.{Sight, Around, LooksSame, written, with_written}
@@ -44,25 +44,26 @@ pub same_near : (app : Application) (place mark : ℕ) (sight new : Sight) → n
 same_near app place mark sight new new_is = ap (λ (s : Sight). s.near) new_is
 
 -- the propensity of a site that more hops are needed to stays as it was
-pub far_stays : (app : Application) (whole : ℕ → Bool) (prop step place mark : ℕ) (sight new : Sight) (kept : List ℕ)
+pub far_stays : (app : Application) (whole : ℕ → Bool) (prop step place mark : ℕ) (sight new : Sight) (places kept : List ℕ)
     → IsReady app whole (prop + step) sight
     → IsLocal prop step app
     → place < length sight.values
     → HasMark (app.events sight place) mark
     → new ≡ with_written (app.writes sight place mark) sight
-    → kept ≡ propensities_in app sight
-    → (other : ℕ)
-    → other < length new.values
-    → (IsWithin new.near (prop + step) place other → ⊥)
-    → get_or kept other 0 ≡ propensity (app.events new other)
-far_stays app whole prop step place mark sight new kept ready local less marked new_is kept_is other within far =
-    let all : length new.values ≡ length sight.values = same_length app place mark sight new new_is in
-    let inside : other < length sight.values = omega (arith, within, all) in
+    → kept ≡ propensities_in app sight places
+    → All (λ j. j < length sight.values) places
+    → (slot : ℕ)
+    → slot < length places
+    → (IsWithin new.near (prop + step) place (get_or places slot 0) → ⊥)
+    → get_or kept slot 0 ≡ propensity (app.events new (get_or places slot 0))
+far_stays app whole prop step place mark sight new places kept ready local less marked new_is kept_is inside slot within far =
+    let other : ℕ = get_or places slot 0 in
+    let there : other < length sight.values = All-get_or (λ j. j < length sight.values) places slot 0 within inside in
     let away : IsWithin sight.near (prop + step) place other → ⊥ = subst (λ (near : ℕ → List ℕ). IsWithin near (prop + step) place other → ⊥) (same_near app place mark sight new new_is) far in
     let looks : LooksSame prop (λ j. j) sight (with_written (app.writes sight place mark) sight) other =
-    far_looks_same sight.near (length sight.values) prop step place other sight.values (written (app.writes sight place mark) sight.values) ready.both_ways less inside
+    far_looks_same sight.near (length sight.values) prop step place other sight.values (written (app.writes sight place mark) sight.values) ready.both_ways less there
     (λ j unreached. written_far sight.near step place j (app.writes sight place mark) sight.values (local.reach sight place mark marked) unreached) away in
-    ap (λ (xs : List ℕ). get_or xs other 0) kept_is ∙ propensity_at app sight other inside ∙ ap propensity (sym (local.events (λ j. j) sight (with_written (app.writes sight place mark) sight) other looks))
+    ap (λ (xs : List ℕ). get_or xs slot 0) kept_is ∙ propensity_at app sight places slot within ∙ ap propensity (sym (local.events (λ j. j) sight (with_written (app.writes sight place mark) sight) other looks))
     ∙ ap (λ (s : Sight). propensity (app.events s other)) (sym new_is)
 
 -- a place that hops lead to stands in the view

@@ -1,5 +1,6 @@
 pub mod Adding
 pub mod Anew
+pub mod Costs
 pub mod Events
 pub mod Gathering
 pub mod Hops
@@ -7,5 +8,9 @@ pub mod Levels
 pub mod Listed
 pub mod Plain
 pub mod Names
+pub mod PatchSlots
+pub mod Patches
 pub mod PlainPlaces
+pub mod SlotLaws
 pub mod Steps
+pub mod Sweeping

@@ -1,5 +1,5 @@
 -- A turn, one event at a time.
-use Rattle.std.proofs.Common.{◌≡◌, ℕ, zero, suc, ◌+◌, ◌-◌, ◌<◌, ◌≤◌, ◌==◌, nat_le, true, false, eq-eqb, List, length, sum, refl, sym, ap, ◌∙◌, arith}
+use Rattle.std.proofs.Common.{◌≡◌, ℕ, zero, suc, ◌+◌, ◌-◌, ◌<◌, ◌≤◌, ◌==◌, nat_le, true, false, eq-eqb, List, sum, refl, sym, ap, ◌∙◌, arith}
 use Rattle.std.proofs.lemmas.Bool.Decides.{nat_tests}
 use Rattle.spk_sched.specs.declared.counts.Counts.{Counts}
 use Rattle.spk_num.specs.Draws.{next_state}
@@ -9,7 +9,7 @@ use Rattle.spk_solve.specs.declared.solver.Chosen.{Chosen}
 use Rattle.spk_solve.specs.Choice.{Rule, RunningSum, Bins, Chooses}
 use Rattle.spk_app.specs.Sights.{Sight}
 use Rattle.spk_app.specs.Applications.{Application}
-use Rattle.spk_turn.specs.Ready.{whole_view, propensities_in}
+use Rattle.spk_turn.specs.Ready.{sector_on, propensities_in}
 use Rattle.spk_turn.proofs.Anew.{propensities_are}
 
 -- no event is left to do
@@ -57,62 +57,62 @@ chosen_stream RunningSum propensities stream chosen after (names, is) = sym is
 chosen_stream Bins propensities stream chosen after is = rw is refl
 
 -- nothing can happen
-pub event_none : (app : Application) (rule : Rule) (sight : Sight) (list : List ℕ) (stream rest : ℕ) → list ≡ propensities_in app sight → sum list ≡ 0 →
-    (more local : ℕ) (counts : Counts) → turn_from (whole_view app rule sight) (suc more) (local + rest) local (state_with sight.values stream counts) ≡ state_with sight.values stream counts
-event_none app rule sight list stream rest list_is none more local counts =
-    turn_still (whole_view app rule sight) more (local + rest) local (state_with sight.values stream counts) (ap sum (sym (list_is ∙ propensities_are app rule sight)) ∙ none)
+pub event_none : (app : Application) (rule : Rule) (sight : Sight) (places : List ℕ) (list : List ℕ) (stream rest : ℕ) → list ≡ propensities_in app sight places → sum list ≡ 0 →
+    (more local : ℕ) (counts : Counts) → turn_from (sector_on app rule sight places) (suc more) (local + rest) local (state_with sight.values stream counts) ≡ state_with sight.values stream counts
+event_none app rule sight places list stream rest list_is none more local counts =
+    turn_still (sector_on app rule sight places) more (local + rest) local (state_with sight.values stream counts) (ap sum (sym (list_is ∙ propensities_are app rule sight places)) ∙ none)
 
 -- what a choice settles: the total, the stream after it, and the time that the event takes
-pub record IsTimed (app : Application) (rule : Rule) (sight : Sight) (stream after ticks : ℕ) : Type 0 where
-  pub some : 0 < total (whole_view app rule sight) sight.values
-  pub stream_is : next_state (stream_by rule (propensities (whole_view app rule sight) sight.values) stream) ≡ next_state after
-  pub ticks_is : ticks ≡ wait_of (total (whole_view app rule sight) sight.values) (next_state after)
+pub record IsTimed (app : Application) (rule : Rule) (sight : Sight) (places : List ℕ) (stream after ticks : ℕ) : Type 0 where
+  pub some : 0 < total (sector_on app rule sight places) sight.values
+  pub stream_is : next_state (stream_by rule (propensities (sector_on app rule sight places) sight.values) stream) ≡ next_state after
+  pub ticks_is : ticks ≡ wait_of (total (sector_on app rule sight places) sight.values) (next_state after)
 
-pub timed : (app : Application) (rule : Rule) (sight : Sight) (list : List ℕ) (stream after ticks : ℕ) (chosen : Chosen)
-    → list ≡ propensities_in app sight
+pub timed : (app : Application) (rule : Rule) (sight : Sight) (places : List ℕ) (list : List ℕ) (stream after ticks : ℕ) (chosen : Chosen)
+    → list ≡ propensities_in app sight places
     → 0 < sum list
     → Chooses rule list stream chosen after
     → ticks ≡ wait_of (sum list) (next_state after)
-    → IsTimed app rule sight stream after ticks
-timed app rule sight list stream after ticks chosen list_is some chooses ticks_is =
-    let same : list ≡ propensities (whole_view app rule sight) sight.values = list_is ∙ propensities_are app rule sight in
+    → IsTimed app rule sight places stream after ticks
+timed app rule sight places list stream after ticks chosen list_is some chooses ticks_is =
+    let same : list ≡ propensities (sector_on app rule sight places) sight.values = list_is ∙ propensities_are app rule sight places in
     record {
       some = rw (ap sum same) at some;
-      stream_is = ap next_state (chosen_stream rule (propensities (whole_view app rule sight) sight.values) stream chosen after (rw same at chooses));
+      stream_is = ap next_state (chosen_stream rule (propensities (sector_on app rule sight places) sight.values) stream chosen after (rw same at chooses));
       ticks_is = ticks_is ∙ ap (λ (ps : List ℕ). wait_of (sum ps) (next_state after)) same;
     }
 
 -- the event would come too late
-pub event_late : (app : Application) (rule : Rule) (sight : Sight) (stream rest after ticks : ℕ)
-    → IsTimed app rule sight stream after ticks
+pub event_late : (app : Application) (rule : Rule) (sight : Sight) (places : List ℕ) (stream rest after ticks : ℕ)
+    → IsTimed app rule sight places stream after ticks
     → rest ≤ ticks
     → (more local : ℕ) (counts : Counts)
-    → turn_from (whole_view app rule sight) (suc more) (local + rest) local (state_with sight.values stream counts) ≡ state_with sight.values (next_state after) counts
-event_late app rule sight stream rest after ticks time late more local counts =
-    let waits : wait_before (whole_view app rule sight) (state_with sight.values stream counts) ≡ ticks =
-    ap (wait_of (total (whole_view app rule sight) sight.values)) time.stream_is ∙ sym time.ticks_is in
-    turn_late (whole_view app rule sight) more (local + rest) local (state_with sight.values stream counts) time.some (omega (arith, late, waits))
+    → turn_from (sector_on app rule sight places) (suc more) (local + rest) local (state_with sight.values stream counts) ≡ state_with sight.values (next_state after) counts
+event_late app rule sight places stream rest after ticks time late more local counts =
+    let waits : wait_before (sector_on app rule sight places) (state_with sight.values stream counts) ≡ ticks =
+    ap (wait_of (total (sector_on app rule sight places) sight.values)) time.stream_is ∙ sym time.ticks_is in
+    turn_late (sector_on app rule sight places) more (local + rest) local (state_with sight.values stream counts) time.some (omega (arith, late, waits))
     ∙ ap (λ n. state_with sight.values n counts) time.stream_is
 
 -- the event is done
-pub event_goes : (app : Application) (rule : Rule) (sight : Sight) (new : List ℕ) (stream rest after ticks : ℕ)
-    → IsTimed app rule sight stream after ticks
+pub event_goes : (app : Application) (rule : Rule) (sight : Sight) (places : List ℕ) (new : List ℕ) (stream rest after ticks : ℕ)
+    → IsTimed app rule sight places stream after ticks
     → ticks < rest
-    → new ≡ after_event_of (whole_view app rule sight) sight.values (event_by rule (whole_view app rule sight) sight.values stream)
+    → new ≡ after_event_of (sector_on app rule sight places) sight.values (event_by rule (sector_on app rule sight places) sight.values stream)
     → (more local : ℕ) (counts : Counts)
-    → turn_from (whole_view app rule sight) (suc more) (local + rest) local (state_with sight.values stream counts)
-    ≡ turn_from (whole_view app rule sight) more (local + rest) (local + ticks) (state_with new (next_state after) (with_accepted counts))
-event_goes app rule sight new stream rest after ticks time early new_is more local counts =
-    let waits : wait_before (whole_view app rule sight) (state_with sight.values stream counts) ≡ ticks =
-    ap (wait_of (total (whole_view app rule sight) sight.values)) time.stream_is ∙ sym time.ticks_is in
-    turn_goes (whole_view app rule sight) more (local + rest) local (state_with sight.values stream counts) time.some (omega (arith, early, waits))
-    ∙ ap (λ t. turn_from (whole_view app rule sight) more (local + rest) (local + t) (after_event (whole_view app rule sight) (state_with sight.values stream counts))) waits
-    ∙ ap (λ n. turn_from (whole_view app rule sight) more (local + rest) (local + ticks) (state_with (after_event_of (whole_view app rule sight) sight.values (event_by rule (whole_view app rule sight) sight.values stream)) n (with_accepted counts))) time.stream_is
-    ∙ ap (λ (vs : List ℕ). turn_from (whole_view app rule sight) more (local + rest) (local + ticks) (state_with vs (next_state after) (with_accepted counts))) (sym new_is)
+    → turn_from (sector_on app rule sight places) (suc more) (local + rest) local (state_with sight.values stream counts)
+    ≡ turn_from (sector_on app rule sight places) more (local + rest) (local + ticks) (state_with new (next_state after) (with_accepted counts))
+event_goes app rule sight places new stream rest after ticks time early new_is more local counts =
+    let waits : wait_before (sector_on app rule sight places) (state_with sight.values stream counts) ≡ ticks =
+    ap (wait_of (total (sector_on app rule sight places) sight.values)) time.stream_is ∙ sym time.ticks_is in
+    turn_goes (sector_on app rule sight places) more (local + rest) local (state_with sight.values stream counts) time.some (omega (arith, early, waits))
+    ∙ ap (λ t. turn_from (sector_on app rule sight places) more (local + rest) (local + t) (after_event (sector_on app rule sight places) (state_with sight.values stream counts))) waits
+    ∙ ap (λ n. turn_from (sector_on app rule sight places) more (local + rest) (local + ticks) (state_with (after_event_of (sector_on app rule sight places) sight.values (event_by rule (sector_on app rule sight places) sight.values stream)) n (with_accepted counts))) time.stream_is
+    ∙ ap (λ (vs : List ℕ). turn_from (sector_on app rule sight places) more (local + rest) (local + ticks) (state_with vs (next_state after) (with_accepted counts))) (sym new_is)
 
--- an event leaves the sector of a whole view
-pub same_sector : (app : Application) (rule : Rule) (sight later : Sight) → later.near ≡ sight.near → length later.values ≡ length sight.values → whole_view app rule later ≡ whole_view app rule sight
-same_sector app rule sight later near all = rw (near, all) refl
+-- an event leaves the sector as it was
+pub same_sector : (app : Application) (rule : Rule) (sight later : Sight) (places : List ℕ) → later.near ≡ sight.near → sector_on app rule later places ≡ sector_on app rule sight places
+same_sector app rule sight later places near = rw near refl
 
 -- where no event is left
 pub turn_ended : (sector : Sector) (window done local : ℕ) (state : RankState) → window ≤ done → turn_from sector (window - done) window local state ≡ state

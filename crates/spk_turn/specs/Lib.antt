@@ -1,2 +1,4 @@
 pub mod Reached
 pub mod Ready
+pub mod Sectors
+pub mod Slots

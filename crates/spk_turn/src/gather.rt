@@ -14,14 +14,23 @@ pub struct Gathered {
 }
 
 impl Gathered {
-    /// This place alone.
-    fn only(place: usize) -> Gathered
-        ensures count { result.count ≡ 1 }
-        ensures places { places_of result ≡ place ∷ [] }
+    /// No place.
+    pub fn none() -> Gathered
+        ensures { result.count ≡ 0 }
     {
-        let mut places = [0; 729];
-        places[0] = place;
-        Gathered { count: 1, places }
+        Gathered {
+            count: 0,
+            places: [0; 729],
+        }
+    }
+
+    /// Makes this the only place.
+    fn start(&mut self, place: usize)
+        ensures count { self.new.count ≡ 1 }
+        ensures places { places_of self.new ≡ place ∷ [] }
+    {
+        self.places[0] = place;
+        self.count = 1;
     }
 
     /// The places that count.
@@ -39,6 +48,7 @@ impl Gathered {
         requires room { length (with_place (places_of self.old) place) ≤ 729 }
         ensures count { self.new.count ≤ 729 }
         ensures places { places_of self.new ≡ with_place (places_of self.old) place }
+        ensures all { length (places_of self.new) ≡ self.new.count }
     {
         if !self.as_slice().contains(&place) {
             self.places[self.count] = place;
@@ -52,6 +62,7 @@ impl Gathered {
         requires room { length (with_places (places_of self.old) places.now) ≤ 729 }
         ensures count { self.new.count ≤ 729 }
         ensures places { places_of self.new ≡ with_places (places_of self.old) places.now }
+        ensures all { length (places_of self.new) ≡ self.new.count }
     {
         for place in places {
             self.add(*place as usize);
@@ -59,17 +70,18 @@ impl Gathered {
     }
 }
 
-/// The places to which at most so many hops lead from a place, each once.
-pub fn gather<V: View>(view: &V, origin: usize, hops: u32) -> Gathered
+/// Gathers anew the places to which at most so many hops lead from a place, each once.
+pub fn gather<V: View>(view: &V, origin: usize, hops: u32, gathered: &mut Gathered)
     requires place { origin < length (V.sight view.now).values }
     requires mutual { IsMutual (V.sight view.now).near (λ j. j < length (V.sight view.now).values) }
     requires whole { (k : ℕ) → IsTrue (V.whole view.now k) }
     requires room { ReachesAtMost (V.sight view.now).near hops origin 729 }
-    ensures count { result.count ≤ 729 }
-    ensures reached { IsReached (V.sight view.now).near hops origin (places_of result) }
-    ensures covers { (j : ℕ) → IsWithin (V.sight view.now).near hops origin j → Contains (places_of result) j }
+    ensures count { gathered.new.count ≤ 729 }
+    ensures reached { IsReached (V.sight view.now).near hops origin (places_of gathered.new) }
+    ensures covers { (j : ℕ) → IsWithin (V.sight view.now).near hops origin j → Contains (places_of gathered.new) j }
+    ensures at_most { (most : ℕ) → ReachesAtMost (V.sight view.now).near hops origin most → gathered.new.count ≤ most }
 {
-    let mut gathered = Gathered::only(origin);
+    gathered.start(origin);
     // The neighbours of the places before this one are there.
     let mut first = 0;
     'hops: for _ in 0..hops {
@@ -80,7 +92,6 @@ pub fn gather<V: View>(view: &V, origin: usize, hops: u32) -> Gathered
         }
         first = last;
     }
-    gathered
 }
 
 #[cfg(test)]
@@ -98,16 +109,14 @@ mod tests {
         let sites = lattice.sites() as usize;
         assert!(rt; sites > 12);
         let view = PlainView::new(&lattice, vec![in rt.alloc(); 1; sites]?);
+        let mut gathered = Gathered::none();
         for (hops, want) in [1, 5, 13, 21, 25].iter().enumerate() {
-            assert_eq!(rt;
-                gather(&view, 12, hops as u32).count,
-                *want,
-                "at {hops} hops"
-            );
+            gather(&view, 12, hops as u32, &mut gathered);
+            assert_eq!(rt; gathered.count, *want, "at {hops} hops");
         }
-        let near = gather(&view, 12, 1);
+        gather(&view, 12, 1, &mut gathered);
         for place in [7, 11, 12, 13, 17] {
-            assert!(rt; near.as_slice().contains(&place), "at {place}");
+            assert!(rt; gathered.as_slice().contains(&place), "at {place}");
         }
         Ok(())
     }

@@ -1,10 +1,13 @@
-//! Turns: events of the sites of a view, one after another, by the kinetic Monte Carlo rule.
+//! Turns of the sites of a sector: events, one after another, by the kinetic Monte Carlo rule, and sweeps of trials.
 #![tactic(auto)]
 
-pub mod gather;
+mod gather;
 mod mark;
-pub mod refresh;
-pub mod turn;
+pub mod patch_turns;
+mod refresh;
+mod slots;
+mod sweep;
+mod turn;
 
-pub use refresh::fill;
+pub use patch_turns::{turn_kmc, turn_kmc_again, turn_sweep};
 pub use spk_sched::Counts;

@@ -1,72 +1,91 @@
 //! Propensities in a solver's list that are taken afresh.
 
-ghost use Rattle.std.specs.Prelude.{◌≡◌, ℕ, ◌+◌, ◌<◌, ◌≤◌, length, slice_index, slice_set};
-ghost use Rattle.spk_lattice.specs.Hops.{IsWithin};
+ghost use Rattle.std.specs.Prelude.{◌≡◌, ℕ, ◌+◌, ◌<◌, ◌≤◌, ◌∷◌, List, length, slice_index};
+ghost use Rattle.spk_lattice.specs.Hops.{IsWithin, ReachesAtMost};
+ghost use Rattle.spk_lattice.specs.Layout.{sites_of};
 ghost use Rattle.spk_app.specs.Applications.{propensity};
-ghost use Rattle.spk_turn.specs.Ready.{IsReady, propensities_in};
+ghost use Rattle.spk_turn.specs.Ready.{IsReady, IsRightBut, propensities_in};
+ghost use Rattle.spk_turn.specs.Slots.{place_of, places, slot_count};
 
-use crate::gather::gather;
+use crate::gather::{Gathered, gather};
+use crate::slots::Slots;
 use spk_app::{App, Steps, View};
 use spk_solve::Solver;
 use std::sync::ledger::Ledger;
 
-/// Takes the propensity of the site at a place afresh.
+/// Takes the propensity of the site at a place afresh, where the solver keeps it.
 fn refresh_one<V: View, A: App, S: Solver, L: Ledger>(
     view: &V,
+    slots: &Slots,
     app: &A,
     solver: &mut S,
     place: usize,
     steps: &mut Steps<L>,
 )
     requires ready { IsReady (A.rules app.now) (V.whole view.now) (A.PROP + A.STEP) (V.sight view.now) }
+    requires view { sites_of slots.now.view ≡ length (V.sight view.now).values }
     requires place { place < length (V.sight view.now).values }
-    requires all { length (S.list solver.old) ≡ length (V.sight view.now).values }
-    ensures list { S.list solver.new ≡ slice_set (S.list solver.old) place (propensity ((A.rules app.now).events (V.sight view.now) place)) }
+    requires all { length (S.list solver.old) ≡ length (places slots.now) }
+    ensures right { (todo : List ℕ) → IsRightBut (A.rules app.now) (V.sight view.now) (places slots.now) (S.list solver.old) (place ∷ todo) →
+        IsRightBut (A.rules app.now) (V.sight view.now) (places slots.now) (S.list solver.new) todo }
+    ensures all { length (S.list solver.new) ≡ length (S.list solver.old) }
     ensures capacity { S.capacity solver.new ≡ S.capacity solver.old }
+    ensures cost { steps.new ≤ steps.old + 1 }
 {
+    slots.known();
+    let Some(slot) = slots.slot(place) else {
+        return;
+    };
     let weight = app.propensity(view, place, steps);
-    solver.set(place, weight);
+    solver.set(slot, weight);
 }
 
-/// Fills a solver's list with the propensities of all places, of which there are so many.
-pub fn fill<V: View, A: App, S: Solver, L: Ledger>(
+/// Fills a solver's list with the propensities of all sites of a sector.
+pub(crate) fn fill<V: View, A: App, S: Solver, L: Ledger>(
     view: &V,
+    slots: &Slots,
     app: &A,
     solver: &mut S,
-    count: usize,
     steps: &mut Steps<L>,
 )
     requires ready { IsReady (A.rules app.now) (V.whole view.now) (A.PROP + A.STEP) (V.sight view.now) }
-    requires count { count ≡ length (V.sight view.now).values }
-    requires room { count ≤ S.capacity solver.old }
-    ensures afresh { S.list solver.new ≡ propensities_in (A.rules app.now) (V.sight view.now) }
+    requires view { sites_of slots.now.view ≡ length (V.sight view.now).values }
+    requires room { slot_count slots.now ≤ S.capacity solver.old }
+    ensures afresh { S.list solver.new ≡ propensities_in (A.rules app.now) (V.sight view.now) (places slots.now) }
     ensures capacity { S.capacity solver.new ≡ S.capacity solver.old }
+    ensures cost { steps.new ≡ steps.old + slot_count slots.now }
 {
+    let count = slots.count();
     solver.reset(count);
-    'places: for place in 0..count {
-        refresh_one(view, app, solver, place, steps);
+    'slots: for slot in 0..count {
+        let weight = app.propensity(view, slots.place(slot), steps);
+        solver.set(slot, weight);
     }
 }
 
 /// Takes the propensities afresh that an event at a place may have changed.
 pub fn refresh<V: View, A: App, S: Solver, L: Ledger>(
     view: &V,
+    slots: &Slots,
     app: &A,
     solver: &mut S,
     place: usize,
+    gathered: &mut Gathered,
     steps: &mut Steps<L>,
 )
     requires ready { IsReady (A.rules app.now) (V.whole view.now) (A.PROP + A.STEP) (V.sight view.now) }
+    requires view { sites_of slots.now.view ≡ length (V.sight view.now).values }
     requires place { place < length (V.sight view.now).values }
-    requires all { length (S.list solver.old) ≡ length (V.sight view.now).values }
-    requires stale { (other : ℕ) → other < length (V.sight view.now).values →
-        (IsWithin (V.sight view.now).near (A.PROP + A.STEP) place other → ⊥) →
-        slice_index (S.list solver.old) other ≡ propensity ((A.rules app.now).events (V.sight view.now) other) }
-    ensures afresh { S.list solver.new ≡ propensities_in (A.rules app.now) (V.sight view.now) }
+    requires all { length (S.list solver.old) ≡ length (places slots.now) }
+    requires stale { (slot : ℕ) → slot < length (places slots.now) →
+        (IsWithin (V.sight view.now).near (A.PROP + A.STEP) place (slice_index (places slots.now) slot) → ⊥) →
+        slice_index (S.list solver.old) slot ≡ propensity ((A.rules app.now).events (V.sight view.now) (slice_index (places slots.now) slot)) }
+    ensures afresh { S.list solver.new ≡ propensities_in (A.rules app.now) (V.sight view.now) (places slots.now) }
     ensures capacity { S.capacity solver.new ≡ S.capacity solver.old }
+    ensures cost { (most : ℕ) → ReachesAtMost (V.sight view.now).near (A.PROP + A.STEP) place most → steps.new ≤ steps.old + most }
 {
-    let near = gather(view, place, A::PROP + A::STEP);
-    for other in near.as_slice() {
-        refresh_one(view, app, solver, *other, steps);
+    gather(view, place, A::PROP + A::STEP, gathered);
+    for other in gathered.as_slice() {
+        refresh_one(view, slots, app, solver, *other, steps);
     }
 }

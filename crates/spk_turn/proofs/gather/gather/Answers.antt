@@ -5,13 +5,15 @@ use Rattle.spk_turn.proofs.gather.gather.Goals as goal
 
 pub hops-init : goal.hops-init
 hops-init g c = record {
-  count = omega (arith, c.only-gathered.ensures.count);
-  gathered = rw c.only-gathered.ensures.places (gathered_none (g.V.View.sight c.args.view.now).near c.args.origin);
+  count = omega (arith, c.start.ensures.count);
+  all = ap length c.start.ensures.places ∙ sym c.start.ensures.count;
+  gathered = rw c.start.ensures.places (gathered_none (g.V.View.sight c.args.view.now).near c.args.origin);
 }
 
 pub loop-k-init : goal.loop-k-init
 loop-k-init g c = record {
   count = c.hops.invariant.count;
+  all = c.hops.invariant.all;
   widened = widened_none (g.V.View.sight c.args.view.now).near c.hops.counter (c.hops.counter + 1) c.args.origin c.hops.first (places_of c.hops.gathered) (omega arith) c.hops.invariant.gathered;
 }
 
@@ -50,6 +52,7 @@ loop-k-preserved g c =
     let beside : c.as_slice-in-loop-k.result.now ≡ near (get_or before k 0) = c.as_slice-in-loop-k.ensures.ids ∙ c.neighbours-near.ensures.ids ∙ ap near (sym place) in
     record {
       count = c.add_all.ensures.count;
+      all = c.add_all.ensures.all;
       widened = rw (c.add_all.ensures.places, beside)
           (widened_more near c.hops.counter (c.hops.counter + 1) c.args.origin c.hops.first k before (places_of c.loop-k.gathered) (omega arith) less c.hops.invariant.gathered c.loop-k.invariant.widened);
     }
@@ -60,6 +63,11 @@ hops-preserved g c =
     let are : c.as_slice-last.result.now ≡ before = c.as_slice-last.ensures.places in
     record {
       count = c.loop-k.invariant.count;
+      all = c.loop-k.invariant.all;
       gathered = rw are
           (widened_all (g.V.View.sight c.args.view.now).near c.hops.counter (c.hops.counter + 1) c.args.origin c.hops.first c.loop-k.k before (places_of c.loop-k.gathered) (omega arith) (omega (arith, ap length are)) c.hops.invariant.gathered c.loop-k.invariant.widened);
     }
+
+pub returns-clause-at_most : goal.returns-clause-at_most
+returns-clause-at_most g c = λ most room.
+    omega (arith, c.hops.invariant.all, no_more (g.V.View.sight c.args.view.now).near c.hops.counter c.args.hops c.args.origin most (places_of c.hops.gathered) (omega arith) c.hops.invariant.gathered.reached room)

@@ -1,19 +1,35 @@
-use Rattle.std.proofs.Common.{arith, length, ap, ◌∙◌}
+use Rattle.std.proofs.Common.{◌≡◌, ◌<◌, arith, length, sym, ap, ◌∙◌}
 use Rattle.std.proofs.lemmas.List.{length-replicate}
+use Rattle.std.specs.Prelude.{slice_set}
+use Rattle.spk_turn.specs.Ready.{propensity_in}
+use Rattle.spk_turn.specs.Slots.{slot_count}
 use Rattle.spk_turn.proofs.Anew.{one_more_right, all_first_right}
+use Rattle.spk_turn.proofs.Events.{all_seen}
+use Rattle.spk_turn.proofs.SlotLaws.{count_is, place_at}
 use Rattle.spk_turn.proofs.refresh.fill.Goals as goal
 
-pub places-init : goal.places-init
-places-init g c = record {
-  first = record { all = ap length c.reset.ensures.list ∙ length-replicate c.args.count 0 ∙ c.requires.count; right = λ place less. absurd (omega (arith, less)) };
+pub slots-init : goal.slots-init
+slots-init g c = record {
+  first = record { all = ap length c.reset.ensures.list ∙ length-replicate c.count-count.result 0 ∙ c.count-count.ensures ∙ sym (count_is c.args.slots.now); right = λ slot less. absurd (omega (arith, less)) };
+  cost = omega arith;
   capacity = c.reset.ensures.capacity;
 }
 
-pub places-preserved : goal.places-preserved
-places-preserved g c = record {
-  first = one_more_right _ _ _ _ c.places.place (omega (arith, c.requires.count, c.places-test.true)) c.places.invariant.first c.refresh_one.ensures.list;
-  capacity = c.refresh_one.ensures.capacity ∙ c.places.invariant.capacity;
-}
+pub propensity-weight-requires-clause-seen : goal.propensity-weight-requires-clause-seen
+propensity-weight-requires-clause-seen g c = all_seen _ _ _ _ _ _ c.requires.ready
+
+pub set-requires-clause-place : goal.set-requires-clause-place
+set-requires-clause-place g c = omega (arith, c.slots.invariant.first.all, c.slots-test.true, c.count-count.ensures, count_is c.args.slots.now)
+
+pub slots-preserved : goal.slots-preserved
+slots-preserved g c =
+    let less : c.slots.slot < slot_count c.args.slots.now = omega (arith, c.slots-test.true, c.count-count.ensures) in
+    let weight : c.propensity-weight.result ≡ propensity_in (g.A.App.rules c.args.app.now) (g.V.View.sight c.args.view.now) c.place.result = c.propensity-weight.ensures.sum in
+    record {
+      first = one_more_right _ _ _ _ _ c.slots.slot _ (omega (arith, less, count_is c.args.slots.now)) (c.place.ensures.place ∙ sym (place_at c.args.slots.now c.slots.slot less)) c.slots.invariant.first (c.set.ensures.list ∙ ap (slice_set (g.S.Solver.list c.slots.solver) c.slots.slot) weight);
+      cost = omega (arith, c.propensity-weight.ensures.step, c.slots.invariant.cost);
+      capacity = c.set.ensures.capacity ∙ c.slots.invariant.capacity;
+    }
 
 pub returns-clause-afresh : goal.returns-clause-afresh
-returns-clause-afresh g c = all_first_right _ _ _ c.places.place (omega (arith, c.requires.count, c.places-test.false)) c.places.invariant.first
+returns-clause-afresh g c = all_first_right _ _ _ _ c.slots.slot (omega (arith, c.slots-test.false, c.count-count.ensures, count_is c.args.slots.now)) c.slots.invariant.first

@@ -1,42 +1,63 @@
-use Rattle.std.proofs.Common.{sym, ap, ◌∙◌, length}
+use Rattle.std.proofs.Common.{◌+◌, ◌<◌, sym, ap, ◌∙◌, arith, length}
+use Rattle.spk_lattice.specs.Hops.{ReachesAtMost}
 use Rattle.spk_app.specs.Sights.{Sight}
+use Rattle.spk_turn.specs.Slots.{places}
 use Rattle.spk_turn.proofs.Anew.{length-propensities}
+use Rattle.spk_turn.proofs.Costs.{reach_stays}
 use Rattle.spk_turn.proofs.Events.{all_seen, still_ready, same_length, far_stays}
-use Rattle.spk_turn.proofs.Levels.{after_chosen}
+use Rattle.spk_turn.proofs.Levels.{after_chosen_at}
+use Rattle.spk_turn.proofs.SlotLaws.{all_below, place_at}
 use Rattle.spk_turn.proofs.turn.act.Goals as goal
 
+pub events-events-requires-clause-place : goal.events-events-requires-clause-place
+events-events-requires-clause-place g c = omega (arith, c.place-place.ensures.inside, c.requires.view)
+
 pub events-events-requires-clause-seen : goal.events-events-requires-clause-seen
-events-events-requires-clause-seen g c = all_seen _ _ _ _ _ c.args.chosen.place c.requires.ready
+events-events-requires-clause-seen g c = all_seen _ _ _ _ _ c.place-place.result c.requires.ready
+
+pub apply-requires-clause-place : goal.apply-requires-clause-place
+apply-requires-clause-place g c = omega (arith, c.place-place.ensures.inside, c.requires.view)
 
 pub apply-requires-clause-seen : goal.apply-requires-clause-seen
-apply-requires-clause-seen g c = all_seen _ _ _ _ _ c.args.chosen.place c.requires.ready
+apply-requires-clause-seen g c = all_seen _ _ _ _ _ c.place-place.result c.requires.ready
 
 pub refresh-requires-clause-ready : goal.refresh-requires-clause-ready
 refresh-requires-clause-ready g c =
-    still_ready _ _ _ _ _ c.args.chosen.place c.mark_of-mark.result _ _ c.requires.ready (g.met.A.App.stays_valid c.args.app.now) c.requires.place
+    still_ready _ _ _ _ _ c.place-place.result c.mark_of-mark.result _ _ c.requires.ready (g.met.A.App.stays_valid c.args.app.now) (omega (arith, c.place-place.ensures.inside, c.requires.view))
     (rw c.events-events.ensures.events at c.mark_of-mark.ensures.has) c.apply.ensures.sight c.apply.ensures.whole
 
+pub refresh-requires-clause-view : goal.refresh-requires-clause-view
+refresh-requires-clause-view g c = c.requires.view ∙ sym (same_length (g.A.App.rules c.args.app.now) c.place-place.result c.mark_of-mark.result (g.V.View.sight c.args.view.now) (g.V.View.sight c.apply.new.view) c.apply.ensures.sight)
+
 pub refresh-requires-clause-place : goal.refresh-requires-clause-place
-refresh-requires-clause-place g c = rw (same_length (g.A.App.rules c.args.app.now) c.args.chosen.place c.mark_of-mark.result (g.V.View.sight c.args.view.now) (g.V.View.sight c.apply.new.view) c.apply.ensures.sight) c.requires.place
+refresh-requires-clause-place g c = rw (same_length (g.A.App.rules c.args.app.now) c.place-place.result c.mark_of-mark.result (g.V.View.sight c.args.view.now) (g.V.View.sight c.apply.new.view) c.apply.ensures.sight) (omega (arith, c.place-place.ensures.inside, c.requires.view))
 
 pub refresh-requires-clause-all : goal.refresh-requires-clause-all
-refresh-requires-clause-all g c = ap length c.requires.afresh ∙ length-propensities (g.A.App.rules c.args.app.now) (g.V.View.sight c.args.view.now) ∙ sym (same_length (g.A.App.rules c.args.app.now) c.args.chosen.place c.mark_of-mark.result (g.V.View.sight c.args.view.now) (g.V.View.sight c.apply.new.view) c.apply.ensures.sight)
+refresh-requires-clause-all g c = ap length c.requires.afresh ∙ length-propensities (g.A.App.rules c.args.app.now) (g.V.View.sight c.args.view.now) (places c.args.slots.now)
 
 pub refresh-requires-clause-stale : goal.refresh-requires-clause-stale
 refresh-requires-clause-stale g c =
-    far_stays _ _ g.A.App.PROP g.A.App.STEP c.args.chosen.place c.mark_of-mark.result _ _ _ c.requires.ready (g.met.A.App.local c.args.app.now) c.requires.place
-    (rw c.events-events.ensures.events at c.mark_of-mark.ensures.has) c.apply.ensures.sight c.requires.afresh
+    far_stays _ _ g.A.App.PROP g.A.App.STEP c.place-place.result c.mark_of-mark.result _ _ _ _ c.requires.ready (g.met.A.App.local c.args.app.now) (omega (arith, c.place-place.ensures.inside, c.requires.view))
+    (rw c.events-events.ensures.events at c.mark_of-mark.ensures.has) c.apply.ensures.sight c.requires.afresh (rw c.requires.view at (all_below c.args.slots.now c.known.ensures))
 
 pub returns-clause-values : goal.returns-clause-values
 returns-clause-values g c = λ stream after chooses.
     ap (λ (s : Sight). s.values) c.apply.ensures.sight
-    ∙ after_chosen (g.A.App.rules c.args.app.now) g.S.Solver.rule (g.V.View.sight c.args.view.now) stream after c.mark_of-mark.result c.args.chosen (rw c.requires.afresh at chooses) c.requires.place c.requires.rest
+    ∙ after_chosen_at (g.A.App.rules c.args.app.now) g.S.Solver.rule (g.V.View.sight c.args.view.now) (places c.args.slots.now) stream after c.mark_of-mark.result c.place-place.result c.args.chosen
+    (place_at c.args.slots.now c.args.chosen.place c.requires.place ∙ sym c.place-place.ensures.place) (rw c.requires.afresh at chooses) (rw (← c.place-place.ensures.place) at c.requires.rest)
     (rw c.events-events.ensures.events at c.mark_of-mark.ensures.named)
 
 pub returns-clause-all : goal.returns-clause-all
-returns-clause-all g c = same_length (g.A.App.rules c.args.app.now) c.args.chosen.place c.mark_of-mark.result (g.V.View.sight c.args.view.now) (g.V.View.sight c.apply.new.view) c.apply.ensures.sight
+returns-clause-all g c = same_length (g.A.App.rules c.args.app.now) c.place-place.result c.mark_of-mark.result (g.V.View.sight c.args.view.now) (g.V.View.sight c.apply.new.view) c.apply.ensures.sight
 
 pub returns-clause-ready : goal.returns-clause-ready
 returns-clause-ready g c =
-    still_ready _ _ _ _ _ c.args.chosen.place c.mark_of-mark.result _ _ c.requires.ready (g.met.A.App.stays_valid c.args.app.now) c.requires.place
+    still_ready _ _ _ _ _ c.place-place.result c.mark_of-mark.result _ _ c.requires.ready (g.met.A.App.stays_valid c.args.app.now) (omega (arith, c.place-place.ensures.inside, c.requires.view))
     (rw c.events-events.ensures.events at c.mark_of-mark.ensures.has) c.apply.ensures.sight c.apply.ensures.whole
+
+pub returns-clause-cost : goal.returns-clause-cost
+returns-clause-cost g c = λ most reach.
+    let place : c.place-place.result < length (g.V.View.sight c.args.view.now).values = omega (arith, c.place-place.ensures.inside, c.requires.view) in
+    let after : ReachesAtMost (g.V.View.sight c.apply.new.view).near (g.A.App.PROP + g.A.App.STEP) c.place-place.result most =
+    reach_stays (g.A.App.rules c.args.app.now) c.place-place.result c.mark_of-mark.result (g.V.View.sight c.args.view.now) (g.V.View.sight c.apply.new.view) (g.A.App.PROP + g.A.App.STEP) most c.apply.ensures.sight (reach c.place-place.result place) in
+    omega (arith, c.events-events.ensures.step, c.refresh.ensures.cost most after)

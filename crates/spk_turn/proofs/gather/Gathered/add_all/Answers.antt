@@ -13,6 +13,7 @@ pub loop-place-preserved : goal.loop-place-preserved
 loop-place-preserved c = record {
   count = c.add.ensures.count;
   rest = rw c.add.ensures.places (sym (places_first (places_of c.loop-place.self) c.args.places.now c.loop-place.place-index c.loop-place-test.true) ∙ c.loop-place.invariant.rest);
+  all = c.add.ensures.all;
 }
 
 pub returns-clause-places : goal.returns-clause-places

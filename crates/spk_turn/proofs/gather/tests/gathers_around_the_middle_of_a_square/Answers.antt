@@ -14,13 +14,13 @@ gather-requires-clause-room g c =
     let inside : 12 < length c.new-view.result.values = subst (λ (v : PlainSites). 12 < length v.values) (sym c.new-view.ensures) (omega (arith, c.in_ok-vec.ensures.len)) in
     plain_room c.new-view.result c.loop-hops.hops-counter 12 full inside (omega arith)
 
-pub gather-near-requires-clause-mutual : goal.gather-near-requires-clause-mutual
-gather-near-requires-clause-mutual g c =
+pub gather-requires-2-clause-mutual : goal.gather-requires-2-clause-mutual
+gather-requires-2-clause-mutual g c =
     let full : IsFull c.new-view.result = subst IsFull (sym c.new-view.ensures) (record { lattice = c.known.ensures; all = omega (arith, c.in_ok-vec.ensures.len) }) in
     plain_mutual c.new-view.result full
 
-pub gather-near-requires-clause-room : goal.gather-near-requires-clause-room
-gather-near-requires-clause-room g c =
+pub gather-requires-2-clause-room : goal.gather-requires-2-clause-room
+gather-requires-2-clause-room g c =
     let full : IsFull c.new-view.result = subst IsFull (sym c.new-view.ensures) (record { lattice = c.known.ensures; all = omega (arith, c.in_ok-vec.ensures.len) }) in
     let inside : 12 < length c.new-view.result.values = subst (λ (v : PlainSites). 12 < length v.values) (sym c.new-view.ensures) (omega (arith, c.in_ok-vec.ensures.len)) in
     plain_room c.new-view.result 1 12 full inside (omega arith)
