@@ -36,6 +36,7 @@ made maker.SetValue reading = set_to (Value (number_at reading.values 2)) readin
 made maker.SetRange reading = set_to (range_of reading.values) reading.more
 made maker.SetUnique reading = set_to Unique reading.more
 made (maker.Solve style) reading = command.Solve style
+made (maker.Sweep style) reading = command.Sweep style
 made maker.Temperature reading = command.Temperature (decimal_at reading.values 0)
 made maker.Stats reading = command.Stats (decimal_at reading.values 0)
 made maker.Run reading = command.Run (decimal_at reading.values 0)

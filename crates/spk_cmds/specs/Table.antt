@@ -5,6 +5,8 @@ use Rattle.std.specs.Str.{bytes_eq}
 use Rattle.spk_num.specs.Results.{◌>>=◌}
 use Rattle.spk_num.specs.declared.style.Style.{Style}
 use Rattle.spk_num.specs.declared.style.Style.TheVariants.{Line2, Sq4, Sq8, Tri, Sc6, Sc26, Bcc, Fcc}
+use Rattle.spk_num.specs.declared.sweep.Sweep.{Sweep}
+use Rattle.spk_num.specs.declared.sweep.Sweep.TheVariants.{Random, Raster}
 use Rattle.spk_cmds.specs.declared.options.Echo.TheVariants as echo
 use Rattle.spk_cmds.specs.declared.command.AppStyle.{AppStyle}
 use Rattle.spk_cmds.specs.declared.command.AppStyle.TheVariants.{Ising, IsingSingle}
@@ -79,6 +81,9 @@ diffusion = words_alone maker.Diffusion (AnyWord ∷ OneOf (codes "off" ∷ code
 
 abbrev pub solver : SolveStyle → Tail → Form
 solver style tail = record { maker = maker.Solve style; kinds = AnyWord ∷ []; tail = tail }
+
+abbrev pub sweep : Sweep → Form
+sweep style = words_alone (maker.Sweep style) (AnyWord ∷ [])
 
 -- a bound of the propensities, which isn't used
 abbrev pub any_decimal : Kind
@@ -164,6 +169,12 @@ solvers =
     ∷ styled (codes "group") (solver Group (Optional (any_decimal ∷ any_decimal ∷ [])))
     ∷ []
 
+abbrev pub sweeps : List Styled
+sweeps =
+    styled (codes "random") (sweep Random)
+    ∷ styled (codes "raster") (sweep Raster)
+    ∷ []
+
 abbrev pub lattices : List Styled
 lattices =
     styled (codes "line/2n") (lattice Line2)
@@ -210,7 +221,7 @@ table =
     ∷ unbuilt (codes "read_restart")
     ∷ unbuilt (codes "sector")
     ∷ several (codes "solve_style") 0 solvers []
-    ∷ unbuilt (codes "sweep")
+    ∷ several (codes "sweep") 0 sweeps (codes "color" ∷ [])
     ∷ one (codes "temperature") (words_alone maker.Temperature (DecimalNumber (pos 0) (pos 1000000000000) ∷ []))
     ∷ one (codes "stats") (words_alone maker.Stats (DecimalNumber (pos 0) (pos 1000000000000000) ∷ []))
     ∷ unbuilt (codes "diag_style")

@@ -3,6 +3,7 @@
 use crate::command::{AppStyle, SolveStyle};
 use crate::options::Echo;
 use spk_num::style::Style;
+use spk_num::sweep::Sweep;
 
 /// What may stand in the place of a word.
 #[derive(Clone, Copy)]
@@ -66,6 +67,7 @@ pub enum Maker {
     SetRange,
     SetUnique,
     Solve(SolveStyle),
+    Sweep(Sweep),
     Temperature,
     Stats,
     Run,

@@ -55,6 +55,7 @@ pub fn made(alloc: Global, maker: Maker, reading: &Reading) -> Result<Command, A
         Maker::SetRange => set_to(alloc, range_of(values), more)?,
         Maker::SetUnique => set_to(alloc, SetValue::Unique, more)?,
         Maker::Solve(style) => Command::Solve { style },
+        Maker::Sweep(style) => Command::Sweep { style },
         Maker::Temperature => Command::Temperature { t: decimal },
         Maker::Stats => Command::Stats { delta: decimal },
         Maker::Run => Command::Run { length: decimal },

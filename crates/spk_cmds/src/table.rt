@@ -8,6 +8,7 @@ use crate::command::{AppStyle, SolveStyle};
 use crate::form::{Form, Forms, Keyword, Kind, Maker, Row, Styled, Tail};
 use crate::options::Echo;
 use spk_num::style::Style;
+use spk_num::sweep::Sweep;
 
 /// The words after `app_style` where the application has no others.
 const STYLE_ALONE: &[Kind] = &[Kind::AnyWord];
@@ -388,7 +389,28 @@ const ROWS: &[Row] = &[
     },
     Row {
         name: "sweep",
-        forms: Forms::Unbuilt,
+        forms: Forms::Several(
+            0,
+            &[
+                Styled {
+                    word: "random",
+                    form: Form {
+                        maker: Maker::Sweep(Sweep::Random),
+                        kinds: &[Kind::AnyWord],
+                        tail: Tail::NoTail,
+                    },
+                },
+                Styled {
+                    word: "raster",
+                    form: Form {
+                        maker: Maker::Sweep(Sweep::Raster),
+                        kinds: &[Kind::AnyWord],
+                        tail: Tail::NoTail,
+                    },
+                },
+            ],
+            &["color"],
+        ),
     },
     Row {
         name: "temperature",

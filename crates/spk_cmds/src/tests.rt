@@ -82,6 +82,7 @@ fn command_text(alloc: Global, command: &Command) -> Result<String, AllocError> 
             fraction,
             region,
         } => format!(in alloc; "set {value:?} {fraction:?} {region:?}"),
+        Command::Sweep { style } => format!(in alloc; "sweep {style:?}"),
         Command::Temperature { t } => format!(in alloc; "temperature {}", t.millionths),
         Command::Print { text } => format!(in alloc; "print {}", text.as_str()),
         Command::SetEcho { echo } => format!(in alloc; "echo {echo:?}"),
@@ -222,6 +223,12 @@ fn makes_commands(rt: HostRuntime) -> Result<(), Fail> {
         ("echo both", "echo Both"),
         ("", "UnknownCommand "),
         ("solve_style group 1 x", "BadNumber x"),
+        ("sweep random", "sweep Random"),
+        ("sweep raster", "sweep Raster"),
+        ("sweep color", "NotBuilt color"),
+        ("sweep random 2", "WrongCount "),
+        ("sweep", "WrongCount "),
+        ("sweep linear", "UnknownStyle linear"),
     ] {
         let text = outcome_text(rt.alloc(), line)?;
         assert_eq!(rt; text.as_str(), wanted, "at {line}");
