@@ -1,6 +1,6 @@
 -- What a command does, and where it stops.
-use Rattle.std.proofs.Common.{◌≡◌, ℕ, ◌+◌, ◌<◌, ◌^◌, ◌++◌, List, [], ◌∷◌, length, Option, Some, None, Result, Ok, Err, refl, sym, ap, ◌∙◌, subst, inl, inr, arith}
-use Rattle.std.specs.Option.{IfSome, option_map, option_and_then}
+use Rattle.std.proofs.Common.{◌≡◌, ℕ, ◌+◌, ◌++◌, List, [], ◌∷◌, length, Option, Some, None, Result, Ok, Err, refl, sym, ap, ◌∙◌, subst, inl, inr, arith}
+use Rattle.std.specs.Option.{IfSome, option_map, option_map_or, option_and_then}
 use Rattle.std.specs.Result.{IfErr, IsErrAnd}
 use Rattle.std.proofs.lemmas.Bool.{cases_Bool}
 use Rattle.std.proofs.lemmas.Bool.Decides.{nat_tests}
@@ -14,7 +14,8 @@ use Rattle.spk_cmds.specs.declared.command.Command.{Command}
 use Rattle.spk_cmds.specs.declared.command.Command.TheVariants.{Seed, App, Dimension, Lattice, Boundary, Processors, Region, CreateBox, CreateSites, Set, ReadSites, WriteRestart, ReadRestart, Sector, Solve, Sweep, Temperature, Stats, DiagEnergy, Dump, Undump, Run, Print, SetEcho}
 use Rattle.spk_run.specs.declared.answer.Target.{Target}
 use Rattle.spk_run.specs.declared.cause.Cause.{Cause}
-use Rattle.spk_run.specs.declared.cause.Cause.TheVariants.{BadValueForApp, NoSites}
+use Rattle.spk_run.specs.declared.cause.Cause.TheVariants.{BadValueForApp, NoSites, NoSweepForApp}
+use Rattle.spk_num.specs.declared.sweep.Sweep.{Sweep as SweepStyle}
 use Rattle.spk_run.specs.declared.domain.Domain.{Domain}
 use Rattle.spk_run.specs.declared.fault.Fault.{Fault}
 use Rattle.spk_run.specs.declared.fault.Fault.TheVariants as fault
@@ -26,11 +27,11 @@ use Rattle.spk_run.specs.Prepared.{IsFor, IsPreparedFor, IsPrepared, kinetics_fo
 use Rattle.spk_app.specs.Applications.{Application}
 use Rattle.spk_lattice.specs.Layout.{sites_of}
 use Rattle.spk_cmds.specs.declared.command.AppStyle.{AppStyle}
-use Rattle.spk_run.specs.Applications.{rules_of}
+use Rattle.spk_run.specs.Applications.{has_sweep, has_trials, rules_of}
 use Rattle.std.specs.List.{All, position, position_or_len}
 use Rattle.std.proofs.lemmas.List.Elements.{All-nil, All-cons}
 use Rattle.spk_script.proofs.Cuts.{place_missing}
-use Rattle.std.specs.Prelude.{Bool, IsTrue, not}
+use Rattle.std.specs.Prelude.{Bool, IsTrue, true, not, ◌&&◌, is_some}
 use Rattle.spk_run.specs.Faults.{fault_stop, done_to, NoRead, LeavesDone, WritesAfterMemory}
 use Rattle.spk_run.specs.Output.{prints, prints_all}
 use Rattle.spk_sched.specs.Plans.{plan_fault}
@@ -43,7 +44,7 @@ use Rattle.spk_run.specs.Runs.{runs, run_texts, domain_after}
 use Rattle.spk_run.specs.States.{first_of, if_so, ticks_of, are_made, has_sites}
 use Rattle.spk_run.specs.Commands.{cause, set_by, performs}
 use Rattle.spk_run.specs.Commands.NotBuilt.{unbuilt_word}
-use Rattle.spk_run.specs.Commands.Run.{application_on, kinetics_in, settings_of, bad_value, domain_cause, domain_causes, run_causes, run_cause, with_domain, runs_by, runs_domain, runs_domain_by, performs_run}
+use Rattle.spk_run.specs.Commands.Run.{application_on, kinetics_in, settings_of, bad_value, domain_cause, domain_causes, run_causes, run_cause, with_domain, runs_by, runs_domain, runs_domain_by, performs_run, lacks_sweep}
 
 pub fault_stop-memory : fault_stop fault.Memory ≡ WorldOutOfMemory
 unfolding fault_stop
@@ -219,7 +220,7 @@ pub run_free_of : (state : SessionState) (run : ℕ) (asked : AppStyle) (found :
 run_free_of state run asked found style box none =
     let causes = none_holds (run_causes state run) none in
     let application : Application = application_on state asked found in
-    let last : domain_causes state run state.app state.domain ≡ None = causes.1.1.1.1.1.0 in
+    let last : domain_causes state run state.app state.domain ≡ None = causes.1.1.1.1.1.1.1.0 in
     let here : domain_cause state run (application_on state asked found) found ≡ None = rw (style, box) at last in
     let both = none_holds (bad_value (application_on state asked found) found.values ∷ option_and_then plan_cause (plan_fault (settings_of state run (application_on state asked found) found)) ∷ []) here in
     let made : if_so (not (are_made state.domain)) NoSites ≡ None = causes.1.1.1.0 in
@@ -230,15 +231,32 @@ run_free_of state run asked found style box none =
 
 -- what was prepared can run
 runnable_by : (state : SessionState) (asked : AppStyle) (found : Domain) (prepared : Prepared) (run : ℕ) → IsFor state run asked found prepared → IsFree (application_on state asked found) run found →
-    IsRunnable (rules_of prepared.application) found prepared.room
+    IsRunnable (rules_of prepared.application) prepared.plan.sweep found prepared.room
 runnable_by state asked found prepared run for_run free =
     rw for_run.application (record { fits = free.fits; valid = free.valid; room_for = for_run.room_for })
 
 pub runnable_for : (state : SessionState) (run : ℕ) (prepared : Prepared) → IsPrepared state run (Some prepared) → run_cause state run ≡ None →
-    IfSome state.domain (λ domain. IsRunnable (rules_of prepared.application) domain prepared.room)
+    IfSome state.domain (λ domain. IsRunnable (rules_of prepared.application) prepared.plan.sweep domain prepared.room)
 runnable_for state run prepared is none =
     let made = prepared_for state run prepared is in
     rw made.3 (runnable_by state made.0 made.1 prepared run made.4 (run_free_of state run made.0 made.1 made.2 made.3 none))
+
+-- where it has a sweep, the application has trials
+swept_by : (asked : Option SweepStyle) (style : Option AppStyle) (found : AppStyle) → style ≡ Some found → if_so (is_some asked && not (option_map_or has_sweep style true)) NoSweepForApp ≡ None → IfSome asked (λ _. IsTrue (has_sweep found))
+swept_by None style found is none = tt
+swept_by (Some sweep) style found is none =
+    elim (cases_Bool (has_sweep found)) [
+      | inl swept ↦ swept
+      | inr not_swept ↦ let some : if_so (is_some (Some sweep) && not (option_map_or has_sweep style true)) NoSweepForApp ≡ Some NoSweepForApp = rw (is, not_swept) refl in absurd (cc (some, none))
+    ]
+
+pub trials_for : (state : SessionState) (run : ℕ) (prepared : Prepared) → IsPrepared state run (Some prepared) → run_cause state run ≡ None → IfSome prepared.plan.sweep (λ _. IsTrue (has_trials prepared.application))
+trials_for state run prepared is none =
+    let made = prepared_for state run prepared is in
+    let causes = none_holds (run_causes state run) none in
+    let lacking : if_so (lacks_sweep state) NoSweepForApp ≡ None = causes.1.1.1.1.1.1.0 in
+    let sweep : prepared.plan.sweep ≡ state.sweep = ap (λ (s : RunSettings). s.sweep) made.4.plan in
+    rw (sweep, made.4.trials) (swept_by state.sweep state.app made.0 made.2 lacking)
 
 -- its plan starts when the box is
 pub starts_for : (state : SessionState) (run : ℕ) (prepared : Prepared) → IsPrepared state run (Some prepared) → IfSome state.domain (λ domain. prepared.plan.start ≡ domain.time)

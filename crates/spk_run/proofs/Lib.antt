@@ -6,9 +6,11 @@ pub mod Headline
 pub mod Loading
 pub mod Obeying
 pub mod Outputs
+pub mod RankTurns
 pub mod Ranks
 pub mod RunSteps
 pub mod Sessions
 pub mod StatisticsTexts
 pub mod StreamLaws
 pub mod Tellers
+pub mod WholeRanks

@@ -1,5 +1,5 @@
 -- The application of a session: its style, on a lattice and at a temperature.
-use Rattle.std.specs.Prelude.{ℕ, true, false}
+use Rattle.std.specs.Prelude.{ℕ, Bool, true, false}
 use Rattle.spk_num.specs.declared.style.Style.{Style}
 use Rattle.spk_app.specs.Applications.{Application}
 use Rattle.spk_potts.specs.Ising.{ising}
@@ -19,8 +19,20 @@ application_of (style.PottsNeighonly q) lattice temperature = potts (record { q 
 application_of style.DiffusionOff lattice temperature = diffusion (record { linear = false; style = lattice; temperature = temperature })
 application_of style.DiffusionLinear lattice temperature = diffusion (record { linear = true; style = lattice; temperature = temperature })
 
+-- the styles of which sites can be tried in sweeps
+abbrev pub has_sweep : AppStyle → Bool
+has_sweep style.DiffusionOff = false
+has_sweep style.DiffusionLinear = false
+has_sweep other = true
+
 -- the rules that an application follows
 abbrev pub rules_of : AnyApplication → Application
 rules_of (any.Ising settings) = ising settings
 rules_of (any.Potts settings) = potts settings
 rules_of (any.Diffusion settings) = diffusion settings
+
+-- an application has trials
+abbrev pub has_trials : AnyApplication → Bool
+has_trials (any.Ising settings) = true
+has_trials (any.Potts settings) = true
+has_trials (any.Diffusion settings) = false

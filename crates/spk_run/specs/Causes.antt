@@ -13,7 +13,7 @@ use Rattle.spk_script.specs.declared.fault.LineFault.TheVariants as fault
 use Rattle.spk_cmds.specs.declared.command.CommandFault.{CommandFault}
 use Rattle.spk_cmds.specs.declared.command.CommandFault.TheVariants as command
 use Rattle.spk_run.specs.declared.cause.Cause.{Cause}
-use Rattle.spk_run.specs.declared.cause.Cause.TheVariants.{ScriptTooLong, NotAscii, OpenQuote, TooManyLines, LineTooLong, TooManyCommands, UnknownVariable, WrongWords, BadName, BadFormula, Inexact, NumberTooLarge, LoopValue, NotStepped, OtherFile, NoSuchLabel, BadStyle, UnknownCommand, UnknownStyle, WrongCount, BadNumber, OutOfRange, NotBuilt, BadCommandName, NoSeed, NoApp, NoLattice, NoBox, NoSites, AlreadyMade, WrongDimension, RegionTwice, NoSuchRegion, RegionEmpty, TooManyParts, TooManyRegions, BoxNotBlock, BoxNotWhole, TooSmall, TooManySites, NoSolver, BadValueForApp, NotWhole, RunTooLong, FileMissing}
+use Rattle.spk_run.specs.declared.cause.Cause.TheVariants.{ScriptTooLong, NotAscii, OpenQuote, TooManyLines, LineTooLong, TooManyCommands, UnknownVariable, WrongWords, BadName, BadFormula, Inexact, NumberTooLarge, LoopValue, NotStepped, OtherFile, NoSuchLabel, BadStyle, UnknownCommand, UnknownStyle, WrongCount, BadNumber, OutOfRange, NotBuilt, BadCommandName, NoSeed, NoApp, NoLattice, NoBox, NoSites, AlreadyMade, WrongDimension, RegionTwice, NoSuchRegion, RegionEmpty, TooManyParts, TooManyRegions, BoxNotBlock, BoxNotWhole, TooSmall, TooManySites, NoSolver, BothSolverAndSweep, NoSweepForApp, BadValueForApp, NotWhole, RunTooLong, FileMissing}
 
 -- each cause has a number and a text
 abbrev pub cause_number : Cause → ℕ
@@ -58,6 +58,8 @@ cause_number (BoxNotWhole dimension) = 314
 cause_number (TooSmall dimension) = 315
 cause_number TooManySites = 316
 cause_number NoSolver = 319
+cause_number BothSolverAndSweep = 320
+cause_number NoSweepForApp = 321
 cause_number (BadValueForApp site) = 324
 cause_number NotWhole = 325
 cause_number RunTooLong = 326
@@ -111,6 +113,8 @@ cause_text (BoxNotWhole dimension) = codes "box is not whole in " ++ dimension_t
 cause_text (TooSmall dimension) = codes "fewer than 3 cells in " ++ dimension_text dimension
 cause_text TooManySites = codes "more than 4194304 sites"
 cause_text NoSolver = codes "no solve_style and no sweep"
+cause_text BothSolverAndSweep = codes "both solve_style and sweep"
+cause_text NoSweepForApp = codes "application has no sweep"
 cause_text (BadValueForApp site) = codes "bad value at site " ++ decimal site
 cause_text NotWhole = codes "not a whole number of sweeps"
 cause_text RunTooLong = codes "run too long"

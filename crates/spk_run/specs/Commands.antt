@@ -57,6 +57,7 @@ set_by state (command.CreateBox region) = with_box state state.seed (box_of stat
 set_by state command.CreateSites = with_sites state
 set_by state (command.Set value fraction region) = with_set state value fraction region
 set_by state (command.Solve style) = record state { solver = Some style }
+set_by state (command.Sweep style) = record state { sweep = Some style }
 set_by state (command.Temperature t) = record state { temperature = unsigned_abs t.millionths }
 set_by state (command.Stats delta) = record state { stats = ticks_of delta }
 set_by state (command.SetEcho style) = record state { echo = style }

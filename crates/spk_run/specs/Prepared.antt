@@ -4,7 +4,7 @@ use Rattle.spk_cmds.specs.declared.command.AppStyle.{AppStyle}
 use Rattle.spk_run.specs.declared.domain.Domain.{Domain}
 use Rattle.spk_run.specs.declared.commands.run.Prepared.{Prepared}
 use Rattle.spk_run.specs.declared.state.SessionState.{SessionState}
-use Rattle.spk_run.specs.Applications.{rules_of}
+use Rattle.spk_run.specs.Applications.{has_sweep, has_trials, rules_of}
 use Rattle.spk_run.specs.Running.{HasRoomFor}
 use Rattle.spk_run.specs.Solvers.{rule_of, style_of}
 use Rattle.spk_sched.specs.Globals.{Kinetics, kinetics_of}
@@ -17,7 +17,8 @@ kinetics_for prepared = kinetics_of (rules_of prepared.application) (rule_of (st
 pub record IsFor (state : SessionState) (run : ℕ) (style : AppStyle) (domain : Domain) (prepared : Prepared) : Type 0 where
   pub application : rules_of prepared.application ≡ application_on state style domain
   pub plan : prepared.plan ≡ settings_of state run (application_on state style domain) domain
-  pub room_for : HasRoomFor domain prepared.room
+  pub trials : has_trials prepared.application ≡ has_sweep style
+  pub room_for : HasRoomFor domain prepared.plan.sweep prepared.room
   pub solver : style_of prepared.room.solver ≡ solver_of state
   pub log : prepared.room.output.log ≡ state.log
 

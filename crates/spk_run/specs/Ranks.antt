@@ -1,24 +1,28 @@
--- The sites of a rank, as they are kept between turns.
-use Rattle.std.specs.Prelude.{◌≡◌, ℕ, true, length}
-use Rattle.spk_lattice.specs.Layout.{Layout, sites_of}
+-- A rank, as it is kept between turns.
+use Rattle.std.specs.Prelude.{◌≡◌, ◌≤◌, true, All, IsTrue, Option, None}
+use Rattle.spk_num.specs.declared.sweep.Sweep.{Sweep}
 use Rattle.spk_app.specs.Applications.{Application}
-use Rattle.spk_app.specs.PlainViews.{places_beside, sight_of}
 use Rattle.spk_solve.specs.Choice.{Rule}
-use Rattle.spk_sched.specs.Turns.{Sector, RankState, all_places}
-use Rattle.spk_turn.specs.Ready.{IsReady, propensities_in}
+use Rattle.spk_sched.specs.Turns.{IsCount, Sector, RankState}
+use Rattle.spk_patch.specs.Patches.{sight_of}
+use Rattle.spk_turn.specs.Ready.{sector_on, propensities_in}
+use Rattle.spk_turn.specs.Sectors.{IsOwn, places_in, slots_on}
+use Rattle.spk_turn.specs.Slots.{slot_count}
 use Rattle.spk_run.specs.declared.rank.Rank.{Rank}
-use Rattle.spk_run.specs.Solvers.{list_of}
+use Rattle.spk_run.specs.Solvers.{list_of, room_of}
 
--- all sites of a lattice are one sector
-abbrev pub whole_lattice : Application → Rule → Layout → Sector
-whole_lattice application rule lattice = all_places application rule (places_beside lattice) (sites_of lattice)
+-- the sites of a rank that change
+abbrev pub sector_at_rank : Application → Rule → Rank → Sector
+sector_at_rank application rule rank = sector_on application rule (sight_of rank.patch) (places_in rank.patch rank.cells)
 
 abbrev pub state_of : Rank → RankState
-state_of rank = record { values = rank.view.values; stream = rank.stream; counts = rank.counts }
+state_of rank = record { values = rank.patch.values; stream = rank.stream; counts = rank.counts }
 
--- each site of the lattice has a value, the sites are ready for turns, and the solver's list is that of the propensities that are taken afresh
-pub record IsKept (application : Application) (hops : ℕ) (lattice : Layout) (rank : Rank) : Type 0 where
-  pub on : rank.view.lattice ≡ lattice
-  pub fits : length rank.view.values ≡ sites_of rank.view.lattice
-  pub ready : IsReady application (λ _. true) hops (sight_of rank.view)
-  pub afresh : list_of rank.solver ≡ propensities_in application (sight_of rank.view)
+-- Each value is valid, a solver has room where there is no sweep, and a list that is said to be that of the propensities is it.
+-- The counts fit 64 bits.
+pub record IsKept (application : Application) (sweep : Option Sweep) (rank : Rank) : Type 0 where
+  pub cells : IsOwn rank.patch rank.cells
+  pub valid : All (λ v. IsTrue (application.is_valid v)) rank.patch.values
+  pub room : sweep ≡ None → slot_count (slots_on rank.patch rank.cells) ≤ room_of rank.solver
+  pub listed : rank.is_listed ≡ true → list_of rank.solver ≡ propensities_in application (sight_of rank.patch) (places_in rank.patch rank.cells)
+  pub counts : IsCount rank.counts

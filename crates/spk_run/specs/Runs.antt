@@ -1,5 +1,6 @@
 -- A run of an application on the sites of a box: the texts that it writes at its marks, and the box after it.
-use Rattle.std.specs.Prelude.{ℕ, ◌+◌, ◌*◌, List, ◌∷◌, map, Option}
+use Rattle.std.specs.Prelude.{ℕ, ◌+◌, ◌-◌, ◌*◌, ◌/◌, ◌^◌, min, List, ◌∷◌, map, Option, Some, None}
+use Rattle.spk_num.specs.declared.sweep.Sweep.{Sweep}
 use Rattle.spk_world.specs.Effects.{Effect, ◌>>◌, answers}
 use Rattle.spk_run.specs.declared.domain.Domain.{Domain}
 use Rattle.spk_sched.specs.declared.run_settings.RunSettings.{RunSettings}
@@ -24,21 +25,27 @@ job kinetics settings domain = record {
   streams = domain.streams;
 }
 
+-- a sweep lasts 10^9 ticks; a count of sweeps ends at the last value of 64 bits
+abbrev pub sweeps_after : Option Sweep → ℕ → ℕ → ℕ
+sweeps_after None sweeps ticks = sweeps
+sweeps_after (Some style) sweeps ticks = min (sweeps + ticks / 1000000000) (2 ^ 64 - 1)
+
 -- the box, with the state of all ranks after so many ticks
-abbrev pub domain_with : Domain → ℕ → GlobalState → Domain
-domain_with domain ticks state = record domain {
+abbrev pub domain_with : RunSettings → Domain → ℕ → GlobalState → Domain
+domain_with settings domain ticks state = record domain {
   time = domain.time + ticks;
   values = state.values;
   streams = state.streams;
   counts = counts_sum domain.counts (all_counts state.counts);
+  sweeps = sweeps_after settings.sweep domain.sweeps ticks;
 }
 
 -- the box after so many cycles
 unfoldable pub domain_at : Kinetics → RunSettings → Domain → ℕ → Domain
-domain_at kinetics settings domain done = domain_with domain (elapsed settings done) (global_state (job kinetics settings domain) (done * settings.sectors))
+domain_at kinetics settings domain done = domain_with settings domain (elapsed settings done) (global_state (job kinetics settings domain) (done * settings.sectors))
 
 abbrev pub domain_after : Kinetics → RunSettings → Domain → Domain
-domain_after kinetics settings domain = domain_with domain settings.length (global_state (job kinetics settings domain) (steps settings))
+domain_after kinetics settings domain = domain_with settings domain settings.length (global_state (job kinetics settings domain) (steps settings))
 
 -- the line of statistics of a box
 abbrev pub line_of : Domain → StatsLine

@@ -20,6 +20,7 @@ new_state options = record {
   regions = [];
   domain = None;
   solver = None;
+  sweep = None;
   temperature = 0;
   stats = 0;
   echo = options.echo;

@@ -1,8 +1,8 @@
 //! The application of a session.
 
-ghost use Rattle.std.specs.Prelude.{◌≡◌, ◌+◌, ◌^◌, ◌<◌, ◌≤◌, length};
+ghost use Rattle.std.specs.Prelude.{◌≡◌, ◌≤◌, IfSome, IsTrue};
 ghost use Rattle.spk_world.specs.Effects.{Wrote};
-ghost use Rattle.spk_run.specs.Applications.{application_of, rules_of};
+ghost use Rattle.spk_run.specs.Applications.{application_of, has_sweep, has_trials, rules_of};
 ghost use Rattle.spk_run.specs.Output.{prints_all};
 ghost use Rattle.spk_run.specs.Runs.{run_texts, domain_after};
 ghost use Rattle.spk_run.specs.Running.{IsRunnable};
@@ -31,10 +31,18 @@ pub enum AnyApplication {
     Diffusion(Diffusion),
 }
 
+/// Whether the sites of an application can be tried in sweeps.
+pub fn has_sweep(style: AppStyle) -> bool
+    ensures { result ≡ has_sweep style }
+{
+    !matches!(style, AppStyle::DiffusionOff | AppStyle::DiffusionLinear)
+}
+
 impl AnyApplication {
     /// The application of a style on a lattice, at a temperature in millionths.
     pub fn of(style: AppStyle, lattice: &Lattice, temperature: u64) -> AnyApplication
-        ensures { rules_of result ≡ application_of style lattice.now.style temperature }
+        ensures rules { rules_of result ≡ application_of style lattice.now.style temperature }
+        ensures trials { has_trials result ≡ has_sweep style }
     {
         match style {
             AppStyle::Ising => AnyApplication::Ising(Ising::new(false, lattice, temperature)),
@@ -84,7 +92,8 @@ impl AnyApplication {
         world: &mut W,
     ) -> Finished
         requires one_sector { plan.now.sectors ≡ 1 }
-        requires runnable { IsRunnable (rules_of self) domain room }
+        requires sweeps { IfSome plan.now.sweep (λ _. IsTrue (has_trials self)) }
+        requires runnable { IsRunnable (rules_of self) plan.now.sweep domain room }
         requires start { plan.now.start ≡ domain.time }
         ensures domain { result.domain ≡ domain_after (kinetics_of (rules_of self) (rule_of (style_of room.solver))) plan.now domain }
         ensures wrote { Wrote target_stop (W.state world.old) (W.state world.new)

@@ -95,6 +95,10 @@ pub enum Cause {
     TooManySites,
     /// Neither a solver nor a sweep was given.
     NoSolver,
+    /// Both a solver and a sweep were given.
+    BothSolverAndSweep,
+    /// A sweep was given, and the application has none.
+    NoSweepForApp,
     /// The application has no such value as that of this site.
     BadValueForApp(u32),
     /// A cycle or a run is no whole number of sweeps.

@@ -96,6 +96,7 @@ impl SessionState {
                 region,
             } => self.set_values(*value, *fraction, region),
             Command::Solve { style } => self.solver = Some(*style),
+            Command::Sweep { style } => self.sweep = Some(*style),
             Command::Temperature { t } => self.temperature = t.millionths.unsigned_abs(),
             Command::Stats { delta } => self.stats = ticks_of(*delta),
             Command::SetEcho { echo } => self.echo = *echo,

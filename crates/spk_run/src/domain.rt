@@ -1,5 +1,7 @@
 //! The box of a session.
 
+ghost use Rattle.std.specs.Prelude.{◌≡◌};
+
 use crate::streams::Streams;
 use crate::values::Values;
 use spk_lattice::Lattice;
@@ -16,4 +18,13 @@ pub struct Domain {
     /// The events since the box was made.
     pub counts: Counts,
     pub sweeps: u64,
+}
+
+impl Domain {
+    /// How many sweeps there were since the box was made, or 2^64 - 1.
+    pub fn sweep_count(&self) -> u64
+        ensures { result ≡ self.now.sweeps }
+    {
+        self.sweeps
+    }
 }

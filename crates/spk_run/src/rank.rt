@@ -1,163 +1,142 @@
-//! The sites of a rank, between its turns.
+//! A rank, between its turns.
 
-ghost use Rattle.std.specs.Prelude.{◌≡◌, ◌+◌, ◌<◌, ◌≤◌, length, All, IfOk, IsTrue};
-ghost use Rattle.spk_lattice.specs.Layout.{sites_of};
-ghost use Rattle.spk_sched.specs.Turns.{no_counts, turn_of};
-ghost use Rattle.spk_run.specs.Ranks.{state_of, whole_lattice, IsKept};
-ghost use Rattle.spk_run.specs.Solvers.{rule_of, style_of, room_of};
+ghost use Rattle.std.specs.Prelude.{◌≡◌, All, IfSome, IsTrue, Some, None};
+ghost use Rattle.spk_lattice.specs.Boxes.{cells_of, whole_box};
+ghost use Rattle.spk_solve.specs.Choice.{Rule};
+ghost use Rattle.spk_sched.specs.Turns.{no_counts, sweeps_of, turn_by, turn_of};
+ghost use Rattle.spk_patch.specs.Patches.{sight_of};
+ghost use Rattle.spk_turn.specs.Ready.{propensities_in};
+ghost use Rattle.spk_turn.specs.Sectors.{places_in};
+ghost use Rattle.spk_run.specs.Ranks.{IsKept, sector_at_rank, state_of};
+ghost use Rattle.spk_run.specs.Solvers.{list_of, room_of, rule_of, style_of};
 
 use crate::solver::AnySolver;
-use spk_app::{App, PlainView, Steps};
-use spk_lattice::Lattice;
+use spk_app::{App, Steps};
+use spk_lattice::{Cells, Lattice};
 use spk_num::stream::Stream;
+use spk_num::sweep::Sweep;
+use spk_patch::Patch;
 use spk_sched::Counts;
+use spk_turn::turn_sweep;
 use std::sync::ledger::Ledger;
 
-/// The sites of a rank, the solver that keeps their propensities, the stream from which it draws, and its events since the run's start.
+/// Ticks of a sweep.
+pub const SWEEP: u64 = 1_000_000_000;
+
+/// A patch, the cells whose sites change, the solver that keeps their propensities, the stream from which it draws, and its events since the run's start.
 #[derive(Debug, Drop)]
 pub struct Rank {
-    pub view: PlainView,
+    pub patch: Patch,
+    pub cells: Cells,
     pub solver: AnySolver,
+    /// Whether the solver's list is that of the propensities.
+    pub is_listed: bool,
     pub stream: Stream,
     pub counts: Counts,
 }
 
-impl Rank {
-    /// A rank of all sites of a lattice, before its first turn. The solver has room for the propensities of all of them.
-    pub fn new<A: App, L: Ledger>(
-        app: &A,
-        lattice: &Lattice,
-        values: Vec<u32>,
-        stream: Stream,
-        mut solver: AnySolver,
-        steps: &mut Steps<L>,
-    ) -> Rank
-        requires fits { length values.items ≡ sites_of lattice.now }
-        requires valid { All (λ v. IsTrue ((A.rules app.now).is_valid v)) values.items }
-        requires room { sites_of lattice.now ≤ room_of solver }
-        ensures state { state_of result ≡ record { values = values.items; stream = stream; counts = no_counts } }
-        ensures solver { style_of result.solver ≡ style_of solver }
-        ensures kept { IsKept (A.rules app.now) (A.PROP + A.STEP) lattice.now result }
-    {
-        lattice.known();
-        let view = PlainView::new(lattice, values);
-        solver.fill(&view, app, lattice.sites() as usize, steps);
-        Rank {
-            view,
-            solver,
-            stream,
-            counts: Counts::none(),
-        }
-    }
-
-    /// A turn with a window of so many ticks.
-    pub fn turn<A: App, L: Ledger>(
-        &mut self,
-        app: &A,
-        lattice: &Lattice,
-        window: u64,
-        steps: &mut Steps<L>,
-    )
-        requires { IsKept (A.rules app.now) (A.PROP + A.STEP) lattice.now self.old }
-        ensures state { state_of self.new ≡ turn_of (whole_lattice (A.rules app.now) (rule_of (style_of self.old.solver)) lattice.now) window (state_of self.old) }
-        ensures solver { style_of self.new.solver ≡ style_of self.old.solver }
-        ensures kept { IsKept (A.rules app.now) (A.PROP + A.STEP) lattice.now self.new }
-    {
-        self.solver.turn(
-            &mut self.view,
-            app,
-            &mut self.stream,
-            &mut self.counts,
-            window,
-            steps,
-        );
+/// All cells of a lattice.
+pub fn all_cells(lattice: &Lattice) -> Cells
+    ensures { result ≡ cells_of (whole_box lattice.now) }
+{
+    let [x, y, z] = lattice.extents();
+    Cells {
+        lo: [0; 3],
+        hi: [i64::from(x), i64::from(y), i64::from(z)],
     }
 }
 
-#[cfg(test)]
-mod tests {
-    use super::*;
-    use spk_cmds::SolveStyle;
-    use spk_lattice::Style;
-    use spk_potts::Ising;
-    use std::alloc::{AllocError, Global};
-    use std::marker::Brand;
-    use std::process::Abort;
-    use std::sync::ledger::Blank;
-    use std::test::Fail;
-
-    /// The values that these digits show, which the application allows.
-    fn values_of<A: App>(
-        rt: &impl Abort,
-        alloc: Global,
+impl Rank {
+    /// A turn with a window of so many ticks: sweeps where there is a sweep, and events where there is none.
+    pub fn turn<A: App, L: Ledger>(
+        &mut self,
         app: &A,
-        digits: &str,
-    ) -> Result<Vec<u32>, AllocError>
-        ensures { IfOk result (λ values. All (λ v. IsTrue ((A.rules app.now).is_valid v)) values.items) }
-    {
-        let mut values = Vec::new(alloc);
-        for digit in digits.as_bytes() {
-            let value = u32::from(digit.saturating_sub(b'0'));
-            assert!(rt; app.valid(value));
-            values.push(value)?;
-        }
-        Ok(values)
-    }
-
-    /// A rank after one turn of a chain with these values.
-    fn turned<A: App, L: Ledger>(
-        rt: &impl Abort,
-        lattice: &Lattice,
-        app: &A,
-        values: Vec<u32>,
-        solver: AnySolver,
-        stream: Stream,
+        sweep: Option<Sweep>,
         window: u64,
-        blank: Blank,
-    ) -> Rank
-        requires room { sites_of lattice.now ≤ room_of solver }
-        requires name { blank.name ≡ L.name }
-        requires parts { blank.parts ≡ L.parts }
-        requires some { 0 < blank.parts }
-        requires valid { All (λ v. IsTrue ((A.rules app.now).is_valid v)) values.items }
+        steps: &mut Steps<L>,
+    )
+        requires sweeps { IfSome sweep (λ _. IsTrue A.SWEEPS) }
+        requires kept { IsKept (A.rules app.now) sweep self.old }
+        ensures state { state_of self.new ≡ turn_by sweep (sector_at_rank (A.rules app.now) (rule_of (style_of self.old.solver)) self.old) window (state_of self.old) }
+        ensures patch { self.new.patch ≡ record self.old.patch { values = self.new.patch.values } }
+        ensures cells { self.new.cells ≡ self.old.cells }
+        ensures solver { style_of self.new.solver ≡ style_of self.old.solver }
+        ensures kept { IsKept (A.rules app.now) sweep self.new }
     {
-        let mut steps = Steps::<L>::new(blank);
-        assert!(rt; values.len() == lattice.sites() as usize);
-        let mut rank = Rank::new(app, lattice, values, stream, solver, &mut steps);
-        rank.turn(app, lattice, window, &mut steps);
-        rank
+        match sweep {
+            Some(style) => self.sweep(app, style, window / SWEEP),
+            None => self.events(app, window, steps),
+        }
     }
 
-    // The stream's state, the window, and the values that are drawn; by the plain rule, which takes all propensities
-    // afresh before each event, the values that a turn leaves, the state that it leaves, and how many events it did.
-    #[test]
-    fn turns_by_the_plain_rule(rt: HostRuntime) -> Result<(), Fail> {
-        for (start, window, drawn, left, state, accepted) in [
-            (7, 1_000_000_000, "121", "111", 1365616214, 3),
-            (99, 2_000_000_000, "11212", "12221", 395000257, 7),
-            (3, 1, "11112211", "11112211", 323209673, 0),
-            (8, 9_000_000_000, "11121211111", "22221111111", 78055325, 24),
-        ] {
-            assert!(rt; drawn.len() < 12);
-            let lattice = Lattice::new(Style::Line2, drawn.len() as u32, 1, 1)
-                .ok()
-                .ok_or("a chain")?;
-            let app = Ising::new(false, &lattice, 0);
-            let mut stream = Stream::of_state(start).ok_or("a draw")?;
-            for _ in 0..drawn.len() {
-                let _draw = stream.next();
-            }
-            let values = values_of(&rt, rt.alloc(), &app, drawn)?;
-            let solver = AnySolver::new(rt.alloc(), SolveStyle::Linear, lattice.sites() as usize)?;
-            let blank = Blank::new(1);
-            let rank = turned::<Ising, Brand>(
-                &rt, &lattice, &app, values, solver, stream, window, blank,
-            );
-            assert_eq!(rt; rank.stream.state(), state);
-            assert_eq!(rt; rank.counts.accepted, accepted);
-            let wanted = values_of(&rt, rt.alloc(), &app, left)?;
-            assert_eq!(rt; rank.view.into_values().as_slice(), wanted.as_slice());
+    /// A turn of so many sweeps.
+    fn sweep<A: App>(&mut self, app: &A, style: Sweep, count: u64)
+        requires sweeps { IsTrue A.SWEEPS }
+        requires kept { IsKept (A.rules app.now) (Some style) self.old }
+        ensures state { (rule : Rule) → state_of self.new ≡ sweeps_of style (sector_at_rank (A.rules app.now) rule self.old) count (state_of self.old) }
+        ensures patch { self.new.patch ≡ record self.old.patch { values = self.new.patch.values } }
+        ensures cells { self.new.cells ≡ self.old.cells }
+        ensures solver { style_of self.new.solver ≡ style_of self.old.solver }
+        ensures kept { IsKept (A.rules app.now) (Some style) self.new }
+    {
+        let counts = turn_sweep(
+            &mut self.patch,
+            &self.cells,
+            app,
+            style,
+            &mut self.stream,
+            count,
+        );
+        self.counts = self.counts.plus(counts);
+        self.is_listed = false;
+    }
+
+    /// A turn of events.
+    fn events<A: App, L: Ledger>(&mut self, app: &A, window: u64, steps: &mut Steps<L>)
+        requires { IsKept (A.rules app.now) None self.old }
+        ensures state { state_of self.new ≡ turn_of (sector_at_rank (A.rules app.now) (rule_of (style_of self.old.solver)) self.old) window (state_of self.old) }
+        ensures patch { self.new.patch ≡ record self.old.patch { values = self.new.patch.values } }
+        ensures cells { self.new.cells ≡ self.old.cells }
+        ensures solver { style_of self.new.solver ≡ style_of self.old.solver }
+        ensures kept { IsKept (A.rules app.now) None self.new }
+    {
+        let counts = self.turned(app, window, steps);
+        self.counts = self.counts.plus(counts);
+        self.is_listed = true;
+    }
+
+    /// A turn of events, of which it gives the counts. The list is made first where it isn't that of the propensities.
+    fn turned<A: App, L: Ledger>(&mut self, app: &A, window: u64, steps: &mut Steps<L>) -> Counts
+        requires { IsKept (A.rules app.now) None self.old }
+        ensures turn { turn_of (sector_at_rank (A.rules app.now) (rule_of (style_of self.old.solver)) self.old) window
+            (record { values = self.old.patch.values; stream = self.old.stream; counts = no_counts })
+            ≡ record { values = self.new.patch.values; stream = self.new.stream; counts = result } }
+        ensures patch { self.new.patch ≡ record self.old.patch { values = self.new.patch.values } }
+        ensures cells { self.new.cells ≡ self.old.cells }
+        ensures counts { self.new.counts ≡ self.old.counts }
+        ensures valid { All (λ v. IsTrue ((A.rules app.now).is_valid v)) self.new.patch.values }
+        ensures afresh { list_of self.new.solver ≡ propensities_in (A.rules app.now) (sight_of self.new.patch) (places_in self.new.patch self.new.cells) }
+        ensures style { style_of self.new.solver ≡ style_of self.old.solver }
+        ensures room { room_of self.new.solver ≡ room_of self.old.solver }
+    {
+        if self.is_listed {
+            self.solver.turn_again(
+                &mut self.patch,
+                &self.cells,
+                app,
+                &mut self.stream,
+                window,
+                steps,
+            )
+        } else {
+            self.solver.turn(
+                &mut self.patch,
+                &self.cells,
+                app,
+                &mut self.stream,
+                window,
+                steps,
+            )
         }
-        Ok(())
     }
 }

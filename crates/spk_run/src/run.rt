@@ -1,6 +1,6 @@
 //! A run of the sites of a box, whole.
 
-ghost use Rattle.std.specs.Prelude.{◌≡◌, ◌+◌, ◌^◌, ◌<◌, ◌≤◌, vec_capacity};
+ghost use Rattle.std.specs.Prelude.{◌≡◌, ◌<◌, IfSome, IsTrue};
 ghost use Rattle.spk_world.specs.Effects.{Wrote};
 ghost use Rattle.spk_run.specs.Output.{prints_all};
 ghost use Rattle.spk_run.specs.Runs.{run_texts, domain_after};
@@ -33,7 +33,8 @@ pub fn run<W: World, A: App, L: Ledger>(
     requires parts { blank.parts ≡ L.parts }
     requires some { 0 < blank.parts }
     requires one_sector { plan.now.sectors ≡ 1 }
-    requires runnable { IsRunnable (A.rules app.now) domain room }
+    requires sweeps { IfSome plan.now.sweep (λ _. IsTrue A.SWEEPS) }
+    requires runnable { IsRunnable (A.rules app.now) plan.now.sweep domain room }
     requires start { plan.now.start ≡ domain.time }
     ensures domain { result.domain ≡ domain_after (kinetics_of (A.rules app.now) (rule_of (style_of room.solver))) plan.now domain }
     ensures wrote { Wrote target_stop (W.state world.old) (W.state world.new)
@@ -41,7 +42,7 @@ pub fn run<W: World, A: App, L: Ledger>(
 {
     plan.known();
     let mut steps = Steps::<L>::new(blank);
-    let mut running = Running::new(app, domain, room, &mut steps);
+    let mut running = Running::new(app, domain, plan.sweep(), room);
     running.teller.tell(world, HEADER);
     running.tell(world);
     for step in 0..plan.steps() {

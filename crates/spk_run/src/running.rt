@@ -1,15 +1,16 @@
 //! A run that goes on, cycle by cycle.
 
-ghost use Rattle.std.specs.Prelude.{◌≡◌, ◌+◌, ◌-◌, ◌*◌, ◌^◌, ◌<◌, ◌≤◌, ℕ, List, Option, length, vec_capacity, Ok, IfOk};
-ghost use Rattle.spk_lattice.specs.Layout.{sites_of};
+ghost use Rattle.std.specs.Prelude.{◌≡◌, ◌+◌, ◌-◌, ◌*◌, ◌^◌, ◌<◌, ◌≤◌, ℕ, List, Option, length, vec_capacity, Ok, IfOk, IfSome, IsTrue, true};
 ghost use Rattle.spk_world.specs.Effects.{Effect};
 ghost use Rattle.spk_world.specs.States.{WorldState};
 ghost use Rattle.spk_app.specs.Applications.{Application};
 ghost use Rattle.spk_solve.specs.Choice.{Rule};
 ghost use Rattle.spk_run.specs.declared.domain.Domain.{Domain as Box};
 ghost use Rattle.spk_sched.specs.declared.run_settings.RunSettings.{RunSettings as Settings};
-ghost use Rattle.spk_sched.specs.Plans.{IsRun, steps as run_steps, window};
+ghost use Rattle.spk_sched.specs.Plans.{IsRun, is_whole, steps as run_steps, window};
+ghost use Rattle.spk_num.specs.declared.sweep.Sweep.{Sweep as Style};
 ghost use Rattle.spk_sched.specs.Globals.{Kinetics as RunKinetics, kinetics_of};
+ghost use Rattle.spk_patch.specs.Patches.{place_count};
 ghost use Rattle.spk_run.specs.Output.{prints_then};
 ghost use Rattle.spk_run.specs.Runs.{mark_text, domain_after};
 ghost use Rattle.spk_run.specs.Running.{HasDone, HasRoomFor, IsReady, IsRunnable, RunsOn};
@@ -19,7 +20,7 @@ ghost use Rattle.spk_run.specs.Telling.{GoesOnTelling};
 use crate::answer::Target;
 use crate::domain::Domain;
 use crate::output::Output;
-use crate::rank::Rank;
+use crate::rank::{Rank, SWEEP, all_cells};
 use crate::solver::AnySolver;
 use crate::statistics::{LINE_ROOM, StatsLine};
 use crate::streams::Streams;
@@ -28,6 +29,8 @@ use crate::values::Values;
 use spk_app::{App, Steps};
 use spk_cmds::SolveStyle;
 use spk_lattice::Lattice;
+use spk_num::sweep::Sweep;
+use spk_patch::Patch;
 use spk_sched::{Counts, Plan};
 use spk_world::World;
 use std::alloc::{AllocError, Global};
@@ -39,6 +42,7 @@ pub struct RunRoom {
     pub output: Output,
     /// A line of statistics.
     pub line: Vec<u8>,
+    pub patch: Patch,
     pub solver: AnySolver,
 }
 
@@ -48,6 +52,8 @@ pub struct Running {
     pub lattice: Lattice,
     /// In ticks.
     pub time: u64,
+    /// The values before the run.
+    pub values: Values,
     pub streams: Streams,
     /// The events before the run.
     pub counts: Counts,
@@ -65,58 +71,73 @@ pub struct Finished {
 }
 
 impl RunRoom {
-    /// The room for a run of the sites of a box by a solver of a style.
+    /// The room for a run of the sites of a box by a solver of a style, or by sweeps.
     pub fn new(
         alloc: Global,
         domain: &Domain,
         solver: SolveStyle,
+        sweep: Option<Sweep>,
         output: Output,
     ) -> Result<RunRoom, AllocError>
-        ensures room { IfOk result (HasRoomFor domain.now) }
+        ensures room { IfOk result (HasRoomFor domain.now sweep) }
         ensures solver { IfOk result (λ room. style_of room.solver ≡ solver) }
         ensures output { IfOk result (λ room. room.output ≡ output) }
     {
+        let lattice = &domain.lattice;
+        lattice.known();
+        let kept = match sweep {
+            Some(_) => 0,
+            None => lattice.sites() as usize,
+        };
         Ok(RunRoom {
             output,
             line: Vec::with_capacity(alloc, LINE_ROOM)?,
-            solver: AnySolver::new(alloc, solver, domain.lattice.sites() as usize)?,
+            patch: Patch::new(alloc, lattice, &all_cells(lattice), 0, true)?,
+            solver: AnySolver::new(alloc, solver, kept)?,
         })
     }
 }
 
 impl Running {
     /// A run of a box before its first text.
-    pub fn new<A: App, L: Ledger>(
-        app: &A,
-        domain: Domain,
-        room: RunRoom,
-        steps: &mut Steps<L>,
-    ) -> Running
-        requires { IsRunnable (A.rules app.now) domain room }
-        ensures done { (settings : Settings) → HasDone (kinetics_of (A.rules app.now) (rule_of (style_of room.solver))) settings domain 0 result }
+    pub fn new<A: App>(app: &A, domain: Domain, sweep: Option<Sweep>, room: RunRoom) -> Running
+        requires { IsRunnable (A.rules app.now) sweep domain room }
+        ensures done { (settings : Settings) → settings.sweep ≡ sweep →
+            HasDone (kinetics_of (A.rules app.now) (rule_of (style_of room.solver))) settings domain 0 result }
         ensures output { result.teller.output ≡ room.output }
         ensures written { result.teller.written ≡ Ok tt }
-        ensures ready { IsReady (A.rules app.now) (A.PROP + A.STEP) result }
+        ensures ready { IsReady (A.rules app.now) sweep result }
     {
+        let sweeps = domain.sweep_count();
         let Domain {
             lattice,
             time,
             values,
             streams,
             counts,
-            sweeps,
+            ..
         } = domain;
         let RunRoom {
             output,
             line,
+            mut patch,
             solver,
         } = room;
         lattice.known();
-        let stream = streams.first();
-        let rank = Rank::new(app, &lattice, values.into_vec(), stream, solver, steps);
+        patch.fill_from(values.as_slice());
+        patch.known();
+        let rank = Rank {
+            patch,
+            cells: all_cells(&lattice),
+            solver,
+            is_listed: false,
+            stream: streams.first(),
+            counts: Counts::none(),
+        };
         Running {
             lattice,
             time,
+            values,
             streams,
             counts,
             sweeps,
@@ -127,22 +148,33 @@ impl Running {
     }
 
     /// The turn of a step, with a window of so many ticks.
-    fn turn<A: App, L: Ledger>(&mut self, app: &A, ticks: u64, steps: &mut Steps<L>)
-        requires ready { IsReady (A.rules app.now) (A.PROP + A.STEP) self.old }
+    fn turn<A: App, L: Ledger>(
+        &mut self,
+        app: &A,
+        sweep: Option<Sweep>,
+        ticks: u64,
+        steps: &mut Steps<L>,
+    )
+        requires sweeps { IfSome sweep (λ _. IsTrue A.SWEEPS) }
+        requires ready { IsReady (A.rules app.now) sweep self.old }
         requires fits { self.old.time + ticks < 2 ^ 64 }
-        ensures ready { IsReady (A.rules app.now) (A.PROP + A.STEP) self.new }
-        ensures done { (rule : Rule) (settings : Settings) (domain : Box) (done : ℕ) → settings.sectors ≡ 1 → ticks ≡ window settings done →
+        ensures ready { IsReady (A.rules app.now) sweep self.new }
+        ensures done { (rule : Rule) (settings : Settings) (domain : Box) (done : ℕ) → settings.sectors ≡ 1 → is_whole settings ≡ true → settings.sweep ≡ sweep → ticks ≡ window settings done →
             HasDone (kinetics_of (A.rules app.now) rule) settings domain done self.old → HasDone (kinetics_of (A.rules app.now) rule) settings domain (done + 1) self.new }
         ensures teller { self.new.teller ≡ self.old.teller }
     {
-        self.rank.turn(app, &self.lattice, ticks, steps);
+        self.rank.patch.known();
+        self.rank.turn(app, sweep, ticks, steps);
         self.time += ticks;
+        if let Some(_) = sweep {
+            self.sweeps = self.sweeps.saturating_add(ticks / SWEEP);
+        }
     }
 
     /// Writes the line of statistics at the time.
     pub fn tell<W: World>(&mut self, world: &mut W)
         requires line { 128 ≤ vec_capacity self.old.line }
-        ensures ready { (application : Application) (hops : ℕ) → IsReady application hops self.old → IsReady application hops self.new }
+        ensures ready { (application : Application) (sweep : Option Style) → IsReady application sweep self.old → IsReady application sweep self.new }
         ensures done { (kinetics : RunKinetics) (settings : Settings) (domain : Box) (done : ℕ) →
             HasDone kinetics settings domain done self.old → HasDone kinetics settings domain done self.new }
         ensures telling { (kinetics : RunKinetics) (settings : Settings) (domain : Box) (done : ℕ) (start : WorldState) (log : Option (List ℕ)) (whole rest : Effect (Unit {0})) →
@@ -169,15 +201,17 @@ impl Running {
         world: &mut W,
     )
         requires one_sector { plan.now.sectors ≡ 1 }
-        requires ready { IsReady (A.rules app.now) (A.PROP + A.STEP) self.old }
+        requires sweeps { IfSome plan.now.sweep (λ _. IsTrue A.SWEEPS) }
+        requires ready { IsReady (A.rules app.now) plan.now.sweep self.old }
         requires step { step < run_steps plan.now }
         requires fits { self.old.time + window plan.now step < 2 ^ 64 }
         ensures runs { (start : WorldState) (log : Option (List ℕ)) (rule : Rule) (domain : Box) →
             RunsOn start (W.state world.old) log (kinetics_of (A.rules app.now) rule) plan.now domain step self.old →
             RunsOn start (W.state world.new) log (kinetics_of (A.rules app.now) rule) plan.now domain (step + 1) self.new }
-        ensures ready { IsReady (A.rules app.now) (A.PROP + A.STEP) self.new }
+        ensures ready { IsReady (A.rules app.now) plan.now.sweep self.new }
     {
-        self.turn(app, plan.window(step), steps);
+        plan.known();
+        self.turn(app, plan.sweep(), plan.window(step), steps);
         if plan.mark_after(step) {
             self.tell(world);
         }
@@ -185,7 +219,7 @@ impl Running {
 
     /// The box after all steps of a run.
     pub fn finish(self) -> Finished
-        requires { length self.rank.view.values ≤ 4194304 }
+        requires { length self.values ≡ place_count self.rank.patch }
         ensures domain { (kinetics : RunKinetics) (settings : Settings) (domain : Box) → settings.sectors ≡ 1 → IsRun settings →
             HasDone kinetics settings domain (run_steps settings) self → result.domain ≡ domain_after kinetics settings domain }
         ensures written { result.written ≡ self.teller.written }
@@ -193,6 +227,7 @@ impl Running {
         let Running {
             lattice,
             time,
+            mut values,
             mut streams,
             counts,
             sweeps,
@@ -200,11 +235,13 @@ impl Running {
             teller,
             ..
         } = self;
+        rank.patch.known();
+        values.copy_from(&rank.patch);
         streams.set_first(rank.stream);
         let domain = Domain {
             lattice,
             time,
-            values: Values::of(rank.view.into_values()),
+            values,
             streams,
             counts: counts.plus(rank.counts),
             sweeps,

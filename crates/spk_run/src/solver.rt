@@ -1,17 +1,21 @@
 //! The solver of a run.
 
-ghost use Rattle.std.specs.Prelude.{◌≡◌, ◌+◌, ◌≤◌, length, IfOk};
-ghost use Rattle.spk_turn.specs.Ready.{IsReady, whole_view, propensities_in};
-ghost use Rattle.spk_sched.specs.Turns.{turn_of};
+ghost use Rattle.std.specs.Prelude.{◌≡◌, ◌≤◌, All, IfOk, IsTrue};
+ghost use Rattle.spk_patch.specs.Patches.{sight_of};
+ghost use Rattle.spk_sched.specs.Turns.{no_counts, turn_of};
+ghost use Rattle.spk_turn.specs.Ready.{propensities_in, sector_on};
+ghost use Rattle.spk_turn.specs.Sectors.{IsOwn, places_in, slots_on};
+ghost use Rattle.spk_turn.specs.Slots.{slot_count};
 ghost use Rattle.spk_run.specs.Solvers.{rule_of, style_of, list_of, room_of};
 
-use spk_app::{App, Steps, View};
+use spk_app::{App, Steps};
 use spk_cmds::SolveStyle;
+use spk_lattice::Cells;
 use spk_num::stream::Stream;
+use spk_patch::Patch;
 use spk_sched::Counts;
 use spk_solve::{Group, Linear, Tree};
-use spk_turn::fill;
-use spk_turn::turn::turn;
+use spk_turn::{turn_kmc, turn_kmc_again};
 use std::alloc::{AllocError, Global};
 use std::sync::ledger::Ledger;
 
@@ -37,53 +41,68 @@ impl AnySolver {
         })
     }
 
-    /// Keeps the propensities of all places of a view, of which there are so many.
-    pub fn fill<V: View, A: App, L: Ledger>(
+    /// A turn of a sector, with a window of so many ticks.
+    pub fn turn<A: App, L: Ledger>(
         &mut self,
-        view: &V,
+        patch: &mut Patch,
+        cells: &Cells,
         app: &A,
-        count: usize,
+        stream: &mut Stream,
+        window: u64,
         steps: &mut Steps<L>,
-    )
-        requires ready { IsReady (A.rules app.now) (V.whole view.now) (A.PROP + A.STEP) (V.sight view.now) }
-        requires count { count ≡ length (V.sight view.now).values }
-        requires room { count ≤ room_of self.old }
-        ensures afresh { list_of self.new ≡ propensities_in (A.rules app.now) (V.sight view.now) }
+    ) -> Counts
+        requires cells { IsOwn patch.old cells.now }
+        requires valid { All (λ v. IsTrue ((A.rules app.now).is_valid v)) patch.old.values }
+        requires room { slot_count (slots_on patch.old cells.now) ≤ room_of self.old }
+        ensures turn { turn_of (sector_on (A.rules app.now) (rule_of (style_of self.old)) (sight_of patch.old) (places_in patch.old cells.now)) window
+            (record { values = patch.old.values; stream = stream.old; counts = no_counts })
+            ≡ record { values = patch.new.values; stream = stream.new; counts = result } }
+        ensures patch { patch.new ≡ record patch.old { values = patch.new.values } }
+        ensures valid { All (λ v. IsTrue ((A.rules app.now).is_valid v)) patch.new.values }
+        ensures afresh { list_of self.new ≡ propensities_in (A.rules app.now) (sight_of patch.new) (places_in patch.new cells.now) }
         ensures style { style_of self.new ≡ style_of self.old }
+        ensures room { room_of self.new ≡ room_of self.old }
     {
         match self {
-            AnySolver::Linear(solver) => fill(view, app, solver, count, steps),
-            AnySolver::Tree(solver) => fill(view, app, solver, count, steps),
-            AnySolver::Group(solver) => fill(view, app, solver, count, steps),
+            AnySolver::Linear(solver) => turn_kmc(patch, cells, app, solver, stream, window, steps),
+            AnySolver::Tree(solver) => turn_kmc(patch, cells, app, solver, stream, window, steps),
+            AnySolver::Group(solver) => turn_kmc(patch, cells, app, solver, stream, window, steps),
         }
     }
 
-    /// A turn with a window of so many ticks.
-    pub fn turn<V: View, A: App, L: Ledger>(
+    /// The next window of the same sector.
+    pub fn turn_again<A: App, L: Ledger>(
         &mut self,
-        view: &mut V,
+        patch: &mut Patch,
+        cells: &Cells,
         app: &A,
         stream: &mut Stream,
-        counts: &mut Counts,
         window: u64,
         steps: &mut Steps<L>,
-    )
-        requires ready { IsReady (A.rules app.now) (V.whole view.old) (A.PROP + A.STEP) (V.sight view.old) }
-        requires afresh { list_of self.old ≡ propensities_in (A.rules app.now) (V.sight view.old) }
-        ensures turn { turn_of (whole_view (A.rules app.now) (rule_of (style_of self.old)) (V.sight view.old)) window
-            (record { values = (V.sight view.old).values; stream = stream.old; counts = counts.old })
-            ≡ record { values = (V.sight view.new).values; stream = stream.new; counts = counts.new } }
-        ensures near { (V.sight view.new).near ≡ (V.sight view.old).near }
-        ensures all { length (V.sight view.new).values ≡ length (V.sight view.old).values }
-        ensures frame { V.frame view.new ≡ V.frame view.old }
-        ensures ready { IsReady (A.rules app.now) (V.whole view.new) (A.PROP + A.STEP) (V.sight view.new) }
-        ensures afresh { list_of self.new ≡ propensities_in (A.rules app.now) (V.sight view.new) }
+    ) -> Counts
+        requires cells { IsOwn patch.old cells.now }
+        requires valid { All (λ v. IsTrue ((A.rules app.now).is_valid v)) patch.old.values }
+        requires room { slot_count (slots_on patch.old cells.now) ≤ room_of self.old }
+        requires afresh { list_of self.old ≡ propensities_in (A.rules app.now) (sight_of patch.old) (places_in patch.old cells.now) }
+        ensures turn { turn_of (sector_on (A.rules app.now) (rule_of (style_of self.old)) (sight_of patch.old) (places_in patch.old cells.now)) window
+            (record { values = patch.old.values; stream = stream.old; counts = no_counts })
+            ≡ record { values = patch.new.values; stream = stream.new; counts = result } }
+        ensures patch { patch.new ≡ record patch.old { values = patch.new.values } }
+        ensures valid { All (λ v. IsTrue ((A.rules app.now).is_valid v)) patch.new.values }
+        ensures afresh { list_of self.new ≡ propensities_in (A.rules app.now) (sight_of patch.new) (places_in patch.new cells.now) }
         ensures style { style_of self.new ≡ style_of self.old }
+        ensures room { room_of self.new ≡ room_of self.old }
     {
         match self {
-            AnySolver::Linear(solver) => turn(view, app, solver, stream, counts, window, steps),
-            AnySolver::Tree(solver) => turn(view, app, solver, stream, counts, window, steps),
-            AnySolver::Group(solver) => turn(view, app, solver, stream, counts, window, steps),
+            AnySolver::Linear(solver) => turn_kmc_again(
+                patch, cells, app, solver, stream, window, steps,
+            ),
+            AnySolver::Tree(solver) => turn_kmc_again(
+                patch, cells, app, solver, stream, window, steps,
+            ),
+            AnySolver::Group(solver) => turn_kmc_again(
+                patch, cells, app, solver, stream, window, steps,
+            ),
         }
     }
 }

@@ -10,6 +10,7 @@ use spk_cmds::{AppStyle, Echo, Options, SolveStyle};
 use spk_lattice::Regions;
 use spk_num::decimal::Dec;
 use spk_num::style::Style;
+use spk_num::sweep::Sweep;
 use spk_num::text::Text;
 use std::alloc::{AllocError, Global};
 
@@ -34,6 +35,7 @@ pub struct SessionState {
     /// The box, once it is made.
     pub domain: Option<Domain>,
     pub solver: Option<SolveStyle>,
+    pub sweep: Option<Sweep>,
     /// In millionths of a unit.
     pub temperature: u64,
     /// Ticks from one line of statistics to the next, and 0 where only the first and the last are written.
@@ -82,6 +84,7 @@ impl SessionState {
             regions: Regions::new(alloc),
             domain: None,
             solver: None,
+            sweep: None,
             temperature: 0,
             stats: 0,
             echo: options.echo,

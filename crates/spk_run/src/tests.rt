@@ -2,6 +2,7 @@
 
 use crate::{Answer, Cause, Session, Target, Trouble, status};
 use spk_cmds::{Command, Echo, Input, Options, Settings, command_of};
+use spk_num::sweep::Sweep;
 use spk_num::text::Text;
 use spk_world::{Fail, MemWorld};
 use std::alloc::{AllocError, Global};
@@ -191,6 +192,17 @@ fn refuses_what_is_not_built(rt: HostRuntime) -> Result<(), TestFailed> {
     let word = unbuilt_word(refused).ok_or("a word")?;
     assert!(rt; word.as_str() == "diag_style");
     bench.expect(&rt, "");
+    Ok(())
+}
+
+/// No words make this command, and it is refused all the same.
+#[test]
+fn refuses_sweeps_by_color(rt: HostRuntime) -> Result<(), TestFailed> {
+    let mut bench = Bench::new(rt.alloc())?;
+    let style = Sweep::Color;
+    let refused = (bench.session).obey(&Command::Sweep { style }, &mut bench.world);
+    let word = unbuilt_word(refused).ok_or("a word")?;
+    assert!(rt; word.as_str() == "color");
     Ok(())
 }
 

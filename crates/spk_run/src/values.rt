@@ -4,6 +4,7 @@ ghost use Rattle.std.specs.Prelude.{◌≡◌, ◌<◌, ◌≤◌, not, [], leng
 ghost use Rattle.spk_run.specs.Applications.{rules_of};
 
 use crate::application::AnyApplication;
+use spk_patch::Patch;
 use std::alloc::{AllocError, Global};
 use std::marker::Model;
 
@@ -76,18 +77,20 @@ impl Values {
     }
 
     /// The values as a list.
-    pub fn into_vec(self) -> Vec<u32>
-        ensures { result.items ≡ self }
+    pub fn as_slice(&self) -> &[u32]
+        ensures { result.now ≡ self.now }
     {
-        self.items
+        &self.items
     }
 
-    /// The values of a list.
-    pub fn of(items: Vec<u32>) -> Values
-        requires { length items.items ≤ 4194304 }
-        ensures { result ≡ items.items }
+    /// Takes the values of a patch that has all cells.
+    pub fn copy_from(&mut self, patch: &Patch)
+        requires { length self.old ≡ length patch.now.values }
+        ensures { self.new ≡ patch.now.values }
     {
-        Values { items }
+        for place in 0..self.len() {
+            self.set(place, patch.value(place));
+        }
     }
 }
 

@@ -1,5 +1,5 @@
 -- `create_box`: the box of a region that is a block, with its lattice and the streams of its rank.
-use Rattle.std.specs.Prelude.{ℕ, ◌/◌, ◌%◌, ◌^◌, Bool, not, ◌&&◌, ◌==◌, nat_lt, int_lt, unsigned_abs, pos, if◌then◌else◌, List, [], ◌∷◌, get_or, Option, Some, None, Result, Ok, Err}
+use Rattle.std.specs.Prelude.{ℕ, ◌/◌, ◌%◌, Bool, not, ◌&&◌, ◌==◌, nat_lt, int_lt, unsigned_abs, pos, if◌then◌else◌, List, [], ◌∷◌, get_or, Option, Some, None, Result, Ok, Err}
 use Rattle.spk_num.specs.declared.decimal.Dec.{Dec}
 use Rattle.spk_num.specs.declared.shape.Bound.{Bound}
 use Rattle.spk_num.specs.declared.shape.Bound.TheVariants.{At, Open}

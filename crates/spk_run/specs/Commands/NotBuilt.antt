@@ -1,6 +1,8 @@
--- Commands that aren't built yet, whatever their words are. A session refuses each by its first word.
+-- Commands that aren't built yet, whatever their words are, and words that aren't. A session refuses such a command by its first
+-- word, and another one by the word that isn't built.
 use Rattle.std.specs.Prelude.{ℕ, Bool, if◌then◌else◌, List, codes, Option, Some, None}
 use Rattle.std.specs.List.{list_any}
+use Rattle.spk_num.specs.declared.sweep.Sweep.TheVariants.{Color}
 use Rattle.spk_cmds.specs.declared.command.Command.{Command}
 use Rattle.spk_cmds.specs.declared.command.Command.TheVariants.{Boundary, Processors, ReadSites, WriteRestart, ReadRestart, Sector, Sweep, DiagEnergy, Dump, Undump}
 
@@ -15,7 +17,7 @@ unbuilt_word (ReadSites file) = Some (codes "read_sites")
 unbuilt_word (WriteRestart file) = Some (codes "write_restart")
 unbuilt_word (ReadRestart file) = Some (codes "read_restart")
 unbuilt_word (Sector divided tstop nstop) = Some (codes "sector")
-unbuilt_word (Sweep style) = Some (codes "sweep")
+unbuilt_word (Sweep Color) = Some (codes "color")
 unbuilt_word DiagEnergy = Some (codes "diag_style")
 unbuilt_word (Dump name style delta file fields) = Some (codes "dump")
 unbuilt_word (Undump name) = Some (codes "undump")

@@ -1,10 +1,10 @@
 -- `run`: it is refused for the first cause that holds, and else runs the sites of the box.
-use Rattle.std.specs.Prelude.{ℕ, ◌+◌, not, List, [], ◌∷◌, Option, Some, None, unwrap_or, option_and_then, Result, Ok}
-use Rattle.std.specs.Option.{option_map}
+use Rattle.std.specs.Prelude.{ℕ, ◌+◌, Bool, true, not, ◌&&◌, ◌||◌, List, [], ◌∷◌, Option, Some, None, is_some, unwrap_or, option_and_then, Result, Ok}
+use Rattle.std.specs.Option.{option_map, option_map_or}
 use Rattle.std.specs.List.{position}
 use Rattle.spk_world.specs.Effects.{Effect, ◌>>=◌, answers}
 use Rattle.spk_run.specs.declared.cause.Cause.{Cause}
-use Rattle.spk_run.specs.declared.cause.Cause.TheVariants.{NoApp, NoLattice, NoBox, NoSites, NoSolver, BadValueForApp}
+use Rattle.spk_run.specs.declared.cause.Cause.TheVariants.{NoApp, NoLattice, NoBox, NoSites, NoSolver, BothSolverAndSweep, NoSweepForApp, BadValueForApp}
 use Rattle.spk_run.specs.declared.domain.Domain.{Domain}
 use Rattle.spk_sched.specs.declared.run_settings.Cycle.TheVariants.{Nstop}
 use Rattle.spk_sched.specs.declared.run_settings.RunSettings.{RunSettings}
@@ -13,7 +13,7 @@ use Rattle.spk_app.specs.Applications.{Application}
 use Rattle.spk_cmds.specs.declared.command.AppStyle.{AppStyle}
 use Rattle.spk_cmds.specs.declared.command.SolveStyle.{SolveStyle}
 use Rattle.spk_cmds.specs.declared.command.SolveStyle.TheVariants.{Linear}
-use Rattle.spk_run.specs.Applications.{application_of}
+use Rattle.spk_run.specs.Applications.{application_of, has_sweep}
 use Rattle.spk_sched.specs.Plans.{plan_fault}
 use Rattle.spk_sched.specs.Globals.{Kinetics, kinetics_of}
 use Rattle.spk_run.specs.Causes.{plan_cause}
@@ -33,12 +33,12 @@ settings_of state length application domain = record {
   cycle = Nstop 1000000;
   largest = application.largest;
   sectors = 1;
-  sweep = None;
+  sweep = state.sweep;
   stats = state.stats;
   dumps = [];
 }
 
--- Without a solver a run is refused.
+-- A run without a solver has a sweep, or is refused.
 abbrev pub solver_of : SessionState → SolveStyle
 solver_of state = unwrap_or state.solver Linear
 
@@ -57,13 +57,19 @@ abbrev pub domain_causes : SessionState → ℕ → Option AppStyle → Option D
 domain_causes state length (Some style) (Some domain) = domain_cause state length (application_on state style domain) domain
 domain_causes state length style domain = None
 
+-- a sweep is asked for, and the application has none
+abbrev pub lacks_sweep : SessionState → Bool
+lacks_sweep state = is_some state.sweep && not (option_map_or has_sweep state.app true)
+
 abbrev pub run_causes : SessionState → ℕ → List (Option Cause)
 run_causes state length =
     missing state.app NoApp
     ∷ missing state.lattice NoLattice
     ∷ missing state.domain NoBox
     ∷ if_so (not (are_made state.domain)) NoSites
-    ∷ missing state.solver NoSolver
+    ∷ if_so (not (is_some state.solver || is_some state.sweep)) NoSolver
+    ∷ if_so (is_some state.solver && is_some state.sweep) BothSolverAndSweep
+    ∷ if_so (lacks_sweep state) NoSweepForApp
     ∷ domain_causes state length state.app state.domain
     ∷ []
 

@@ -1,10 +1,11 @@
-//! Commands that aren't built yet, whatever their words are.
+//! Commands that aren't built yet, whatever their words are, and words that aren't.
 
 ghost use Rattle.std.specs.Prelude.{◌≡◌, IfOk};
 ghost use Rattle.std.specs.List.{list_any};
 ghost use Rattle.spk_run.specs.Commands.NotBuilt.{word_if, unbuilt_word};
 
 use spk_cmds::Command;
+use spk_num::sweep::Sweep;
 use spk_num::text::Text;
 use std::alloc::{AllocError, Global};
 
@@ -37,7 +38,9 @@ pub fn unbuilt_word(alloc: Global, command: &Command) -> Result<Option<Text>, Al
         Command::WriteRestart { .. } => word_if(alloc, true, "write_restart"),
         Command::ReadRestart { .. } => word_if(alloc, true, "read_restart"),
         Command::Sector { .. } => word_if(alloc, true, "sector"),
-        Command::Sweep { .. } => word_if(alloc, true, "sweep"),
+        Command::Sweep {
+            style: Sweep::Color,
+        } => word_if(alloc, true, "color"),
         Command::DiagEnergy => word_if(alloc, true, "diag_style"),
         Command::Dump { .. } => word_if(alloc, true, "dump"),
         Command::Undump { .. } => word_if(alloc, true, "undump"),
@@ -51,6 +54,7 @@ pub fn unbuilt_word(alloc: Global, command: &Command) -> Result<Option<Text>, Al
         | Command::Set { .. }
         | Command::Temperature { .. }
         | Command::Solve { .. }
+        | Command::Sweep { .. }
         | Command::Stats { .. }
         | Command::Run { .. }
         | Command::Print { .. }

@@ -1,8 +1,8 @@
 //! `run`: it is refused for the first cause that holds, and else runs the sites of the box.
 
-ghost use Rattle.std.specs.Prelude.{◌≡◌, ◌≤◌, ◌+◌, ◌^◌, ◌<◌, None, IfOk, IfSome};
+ghost use Rattle.std.specs.Prelude.{◌≡◌, ◌≤◌, ◌+◌, ◌^◌, ◌<◌, None, IfOk, IfSome, IsTrue};
 ghost use Rattle.spk_world.specs.Effects.{Wrote};
-ghost use Rattle.spk_run.specs.Applications.{application_of, rules_of};
+ghost use Rattle.spk_run.specs.Applications.{application_of, has_sweep, has_trials, rules_of};
 ghost use Rattle.spk_run.specs.Causes.{IsOfState};
 ghost use Rattle.spk_run.specs.Commands.Run.{settings_of, bad_value, domain_cause, run_cause, runs_domain_by, performs_run};
 ghost use Rattle.spk_run.specs.Prepared.{IsPrepared, kinetics_for};
@@ -10,7 +10,7 @@ ghost use Rattle.spk_sched.specs.Plans.{IsRun};
 ghost use Rattle.spk_run.specs.Running.{IsRunnable};
 ghost use Rattle.spk_run.specs.Faults.{fault_stop, done_to, LeavesDone, WritesAfterMemory};
 
-use crate::application::AnyApplication;
+use crate::application::{AnyApplication, has_sweep};
 use crate::cause::Cause;
 use crate::domain::Domain;
 use crate::fault::Fault;
@@ -45,7 +45,8 @@ fn bad_value(application: &AnyApplication, values: &Values) -> Option<Cause>
 impl SessionState {
     /// The application of a style on a box.
     fn application(&self, style: AppStyle, domain: &Domain) -> AnyApplication
-        ensures { rules_of result ≡ application_of style domain.now.lattice.style self.now.temperature }
+        ensures rules { rules_of result ≡ application_of style domain.now.lattice.style self.now.temperature }
+        ensures trials { has_trials result ≡ has_sweep style }
     {
         AnyApplication::of(style, &domain.lattice, self.temperature)
     }
@@ -68,7 +69,7 @@ impl SessionState {
             cycle: Cycle::Nstop(1_000_000),
             largest: application.largest(),
             sectors: 1,
-            sweep: None,
+            sweep: self.sweep,
             stats: self.stats,
             dumps: Dues::from_vec(Vec::new(alloc)),
         }
@@ -113,8 +114,14 @@ impl SessionState {
         if !domain.has_sites() {
             return Some(Cause::NoSites);
         }
-        if self.solver.is_none() {
+        if self.solver.is_none() && self.sweep.is_none() {
             return Some(Cause::NoSolver);
+        }
+        if self.solver.is_some() && self.sweep.is_some() {
+            return Some(Cause::BothSolverAndSweep);
+        }
+        if self.sweep.is_some() && !has_sweep(style) {
+            return Some(Cause::NoSweepForApp);
         }
         self.domain_cause(alloc, length, &self.application(style, domain), domain)
     }
@@ -137,7 +144,7 @@ impl SessionState {
         let plan = Plan::new(alloc, &settings).map_err(|_| AllocError)?;
         let output = Output::new(alloc, &self.log)?;
         let solver = self.solver.unwrap_or(SolveStyle::Linear);
-        let room = RunRoom::new(alloc, domain, solver, output)?;
+        let room = RunRoom::new(alloc, domain, solver, plan.sweep(), output)?;
         Ok(Some(Prepared {
             application,
             plan,
@@ -148,7 +155,8 @@ impl SessionState {
     /// Runs the box with what is prepared. A write that fails ends the writing, and not the run.
     fn run_with<W: World>(&mut self, prepared: Prepared, world: &mut W) -> Result<(), Fault>
         requires one_sector { prepared.plan.sectors ≡ 1 }
-        requires runnable { IfSome self.old.domain (λ domain. IsRunnable (rules_of prepared.application) domain prepared.room) }
+        requires sweeps { IfSome prepared.plan.sweep (λ _. IsTrue (has_trials prepared.application)) }
+        requires runnable { IfSome self.old.domain (λ domain. IsRunnable (rules_of prepared.application) prepared.plan.sweep domain prepared.room) }
         requires start { IfSome self.old.domain (λ domain. prepared.plan.start ≡ domain.time) }
         requires log { prepared.room.output.log ≡ self.old.log }
         ensures wrote { Wrote fault_stop (W.state world.old) (W.state world.new) (runs_domain_by self.old (kinetics_for prepared) prepared.plan self.old.domain) (done_to self.new result) }

@@ -1,4 +1,4 @@
-use Rattle.std.proofs.Common.{◌≡◌, ◌≤◌, ◌<◌, ◌+◌, ◌^◌, sym, ap, ◌∙◌, arith}
+use Rattle.std.proofs.Common.{◌≡◌, ◌≤◌, sym, ap, arith}
 use Rattle.spk_run.proofs.RunSteps.{has_done_telling, starts_telling, step_fits, texts_none, ends_telling}
 use Rattle.spk_run.specs.declared.output.Output.{Output}
 use Rattle.spk_run.specs.Solvers.{rule_of, style_of}
@@ -10,7 +10,8 @@ use Rattle.spk_run.proofs.run.run.Goals as goal
 pub loop-step-init : goal.loop-step-init
 loop-step-init g c =
     let kinetics = kinetics_of (g.A.App.rules c.args.app.now) (rule_of (style_of c.args.room.solver)) in
-    let has = has_done_telling kinetics c.args.plan.now c.args.domain 0 c.new-running.result c.tell.new.self (c.new-running.ensures.done c.args.plan.now) in
+    let has = has_done_telling kinetics c.args.plan.now c.args.domain 0 c.new-running.result c.tell.new.self (c.new-running.ensures.done c.args.plan.now (sym c.sweep.ensures)) in
+    let ready = rw c.sweep.ensures at c.new-running.ensures.ready in
     let log = ap (λ (output : Output). output.log) c.new-running.ensures.output in
     let header = c.tell.ensures _ _ _ _ (starts_telling (g.W.World.state c.args.world.now) c.args.room.output.log kinetics c.args.plan.now c.args.domain c.new-running.result.teller c.new-running.ensures.written log) in
     record {
@@ -18,7 +19,7 @@ loop-step-init g c =
         has_done = c.tell-2.ensures.done kinetics c.args.plan.now c.args.domain 0 has;
         goes = c.tell-2.ensures.telling kinetics c.args.plan.now c.args.domain 0 _ _ _ _ c.requires.one_sector has header;
       };
-      ready = c.tell-2.ensures.ready _ _ (record { kept = c.new-running.ensures.ready.kept; line = c.new-running.ensures.ready.line });
+      ready = c.tell-2.ensures.ready _ _ (record { kept = ready.kept; values = ready.values; line = ready.line });
     }
 
 pub step-requires-clause-step : goal.step-requires-clause-step

@@ -13,11 +13,21 @@ returns-clause-telling g c = λ kinetics settings domain done start log whole re
 
 pub returns-clause-done : goal.returns-clause-done
 returns-clause-done g c = λ kinetics settings domain done has. record {
-  keeps = record { lattice = has.keeps.lattice; streams = has.keeps.streams; counts = has.keeps.counts; sweeps = has.keeps.sweeps; on = has.keeps.on; some_stream = has.keeps.some_stream; line = c.write.ensures.room };
+  keeps = record {
+    lattice = has.keeps.lattice;
+    streams = has.keeps.streams;
+    counts = has.keeps.counts;
+    patch = has.keeps.patch;
+    cells = has.keeps.cells;
+    on = has.keeps.on;
+    some_stream = has.keeps.some_stream;
+    line = c.write.ensures.room;
+  };
   time = has.time;
+  sweeps = has.sweeps;
   rule = has.rule;
   state = has.state;
 }
 
 pub returns-clause-ready : goal.returns-clause-ready
-returns-clause-ready g c = λ application hops ready. record { kept = ready.kept; line = c.write.ensures.room }
+returns-clause-ready g c = λ application sweep ready. record { kept = ready.kept; values = ready.values; line = c.write.ensures.room }

@@ -1,4 +1,0 @@
-use Rattle.spk_run.proofs.rank.tests.turns_by_the_plain_rule.Given as goal
-
-abbrev pub ghosts-turned : goal.ghosts-turned
-ghosts-turned g a = record { name = a.blank.name; parts = a.blank.parts }
