@@ -1,0 +1,11 @@
+pub mod FileReads
+pub mod LineFaults
+pub mod LineReads
+pub mod Places
+pub mod Printed
+pub mod ReadLaws
+pub mod RoundTrip
+pub mod RowPasses
+pub mod TextLines
+pub mod WholeTexts
+pub mod WordLaws

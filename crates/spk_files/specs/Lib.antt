@@ -1,0 +1,4 @@
+pub mod Lines
+pub mod SiteFiles
+pub mod SiteTexts
+pub mod Readers
