@@ -6,6 +6,8 @@ pub mod Printed
 pub mod ReadLaws
 pub mod RoundTrip
 pub mod RowPasses
+pub mod SiteParts
+pub mod SiteRows
+pub mod SitesRead
 pub mod TextLines
-pub mod WholeTexts
 pub mod WordLaws

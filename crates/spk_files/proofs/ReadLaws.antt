@@ -22,11 +22,11 @@ or_false true = refl
 or_false false = refl
 
 -- a test of any line, with one line more
-any_more : (test : Line → Bool) (lines : List Line) (line : Line) → list_any test (lines ++ line ∷ []) ≡ (list_any test lines || test line)
+pub any_more : (test : Line → Bool) (lines : List Line) (line : Line) → list_any test (lines ++ line ∷ []) ≡ (list_any test lines || test line)
 any_more test lines line = list_any-append test lines (line ∷ []) ∙ ap (λ b. list_any test lines || b) (or_false (test line))
 
 -- a row more, where the values have begun
-rows_begun : (lines : List Line) (line : Line) → list_any begins_values lines ≡ true → rows_in (lines ++ line ∷ []) ≡ rows_in lines ++ cons_option (row_on line) []
+pub rows_begun : (lines : List Line) (line : Line) → list_any begins_values lines ≡ true → rows_in (lines ++ line ∷ []) ≡ rows_in lines ++ cons_option (row_on line) []
 rows_begun [] line begun = absurd cc
 rows_begun (first ∷ lines) line begun =
     elim (begins_values first) as (λ b. (b || list_any begins_values lines) ≡ true →
@@ -36,7 +36,7 @@ rows_begun (first ∷ lines) line begun =
     ] begun
 
 -- lines before the values have no rows
-rows_later : (lines more : List Line) → list_any begins_values lines ≡ false → rows_in (lines ++ more) ≡ rows_in more
+pub rows_later : (lines more : List Line) → list_any begins_values lines ≡ false → rows_in (lines ++ more) ≡ rows_in more
 rows_later [] more none = refl
 rows_later (first ∷ lines) more none =
     elim (begins_values first) as (λ b. (b || list_any begins_values lines) ≡ false → cond b (filter_map row_on (lines ++ more)) (rows_in (lines ++ more)) ≡ rows_in more) [
@@ -45,7 +45,7 @@ rows_later (first ∷ lines) more none =
     ] none
 
 -- nor has one line
-rows_alone : (line : Line) → rows_in (line ∷ []) ≡ []
+pub rows_alone : (line : Line) → rows_in (line ∷ []) ≡ []
 rows_alone line = elim (begins_values line) as (λ b. cond {A = List Row} b [] [] ≡ []) [ true ↦ refl | false ↦ refl ]
 
 -- with no row the values are all 0
@@ -97,7 +97,7 @@ heading_read wanted first line before reader begun counted has none is_begun is_
     }
 
 -- the value of another id stays
-value_kept : (rows : List Row) (row : Row) (id : ℕ) → (row.id == id) ≡ false → value_in (rows ++ row ∷ []) id ≡ value_in rows id
+pub value_kept : (rows : List Row) (row : Row) (id : ℕ) → (row.id == id) ≡ false → value_in (rows ++ row ∷ []) id ≡ value_in rows id
 value_kept [] row id other = rw other refl
 value_kept (r ∷ rows) row id other = ap (cond (r.id == id) (Some r.value)) (value_kept rows row id other)
 

@@ -9,7 +9,7 @@ use Rattle.spk_num.specs.Decimal.{ticks_text}
 use Rattle.spk_num.specs.Whole.{whole_of}
 use Rattle.spk_files.specs.Lines.{Line, words_of}
 use Rattle.spk_files.specs.SiteFiles.{Wanted, Row, row_of, row_on, rows_of, value_in, values_of, values_or_fault, end_fault, first_fault, site_file}
-use Rattle.spk_files.specs.SiteTexts.{sites_text}
+use Rattle.spk_sched.specs.SiteTexts.{sites_text}
 use Rattle.spk_files.proofs.Printed.{whole_of_decimal}
 use Rattle.spk_files.proofs.RowPasses.{IsFreeFrom, AreWanted, value_after, free_after, row_on_line, rows_pass}
 use Rattle.spk_files.proofs.TextLines.{row_lines, whole_file, lines_of_text}

@@ -8,7 +8,7 @@ use Rattle.std.specs.List.{All, slice_split}
 use Rattle.std.specs.Prelude.{codes, filter, nat_lt, ◌==◌}
 use Rattle.spk_num.specs.Decimal.{ticks_text}
 use Rattle.spk_files.specs.Lines.{Line, is_blank, has_bytes, words_of, lines_of}
-use Rattle.spk_files.specs.SiteTexts.{rows_text, sites_text}
+use Rattle.spk_sched.specs.SiteTexts.{rows_text, sites_text}
 use Rattle.spk_files.proofs.Printed.{bytes_above, decimal_above, ticks_above}
 
 -- a byte above 31 ends no line, and one above 32 ends no word

@@ -1,4 +1,4 @@
 pub mod Lines
 pub mod SiteFiles
-pub mod SiteTexts
+pub mod SiteRows
 pub mod Readers

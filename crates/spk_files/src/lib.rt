@@ -5,7 +5,6 @@ mod line;
 mod reader;
 pub mod site_fault;
 pub mod sites;
-mod whole;
 
 pub use site_fault::SiteFault;
 pub use sites::{sites_read, sites_text};

@@ -8,7 +8,7 @@ ghost use Rattle.spk_files.specs.Readers.{Ends, HasRead, Reads, next};
 
 use crate::line::{Line, line_of};
 use crate::site_fault::SiteFault;
-use crate::whole::whole_of;
+use spk_num::whole::whole_of_bytes;
 use std::alloc::{AllocError, Global};
 
 /// What was read of a site file, with a value for each site, and 0 where it had none yet.
@@ -116,7 +116,7 @@ impl Reader {
         ensures reads { (wanted : Wanted) (first : Words) (before : List Words) → HasRead wanted (first ∷ before) self.old → self.old.begun ≡ false →
             Reads wanted (first ∷ before) (word.now ∷ codes "sites" ∷ []) (next self.new) result }
     {
-        let Some(count) = whole_of(word) else {
+        let Some(count) = whole_of_bytes(word) else {
             return Ok(());
         };
         if count != u64::from(self.sites) {
@@ -136,7 +136,7 @@ impl Reader {
         let Line::Two(id, value) = line else {
             return Err(SiteFault::BadLine(self.number()));
         };
-        match (whole_of(id), whole_of(value)) {
+        match (whole_of_bytes(id), whole_of_bytes(value)) {
             (Some(id), Some(value)) => self.set(id, value),
             _ => Err(SiteFault::BadLine(self.number())),
         }

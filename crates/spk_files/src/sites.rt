@@ -1,8 +1,10 @@
 //! Site files: reading and writing.
 
 ghost use Rattle.std.specs.Prelude.{◌≡◌, ◌<◌, ◌≤◌, ◌+◌, ◌^◌, ℕ, ◌∷◌, ◌++◌, All, IfOk, length, List, Ok};
+ghost use Rattle.spk_files.specs.Lines.{lines_of};
 ghost use Rattle.spk_files.specs.SiteFiles.{IsReadOrMemory, site_file};
-ghost use Rattle.spk_files.specs.SiteTexts.{rows_text, sites_text};
+ghost use Rattle.spk_files.specs.SiteRows.{HasHeading, HasSites};
+ghost use Rattle.spk_sched.specs.SiteTexts.{rows_text, sites_text};
 
 use crate::line::first_line;
 use crate::reader::Reader;
@@ -19,7 +21,11 @@ pub fn sites_read(
     largest_value: u32,
 ) -> Result<Vec<u32>, SiteFault>
     requires { length bytes.now < 2 ^ 32 }
-    ensures { IsReadOrMemory (site_file (record { sites = sites; largest = largest_value }) bytes.now) result }
+    ensures file { IsReadOrMemory (site_file (record { sites = sites; largest = largest_value }) bytes.now) result }
+    ensures sites { IfOk result (λ values. HasSites (record { sites = sites; largest = largest_value }) (lines_of bytes.now) values.items) }
+    ensures heading { IfOk result (λ _. HasHeading (record { sites = sites; largest = largest_value }) (lines_of bytes.now)) }
+    ensures reads { (values : List ℕ) → HasHeading (record { sites = sites; largest = largest_value }) (lines_of bytes.now) → HasSites (record { sites = sites; largest = largest_value }) (lines_of bytes.now) values →
+        IsReadOrMemory (Ok values) result }
 {
     let mut reader = Reader::new(alloc, sites, largest_value).map_err(|_| SiteFault::Memory)?;
     let mut left = Some(bytes);

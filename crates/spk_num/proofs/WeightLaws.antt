@@ -1,5 +1,5 @@
 -- No weight is above 1, and one is 1 where the energy doesn't rise.
-use Rattle.std.proofs.Common.{◌≡◌, ℕ, zero, suc, ◌+◌, ◌-◌, ◌*◌, ◌/◌, ◌%◌, ◌^◌, ◌<◌, ◌≤◌, ◌==◌, nat_lt, Bool, true, false, if◌then◌else◌, refl, sym, subst, arith}
+use Rattle.std.proofs.Common.{ℕ, zero, suc, ◌*◌, ◌/◌, ◌%◌, ◌^◌, ◌≤◌, ◌==◌, nat_lt, Bool, true, false, if◌then◌else◌, arith}
 use Rattle.std.specs.Prelude.{ℤ, pos, int_lt, unsigned_abs}
 use Rattle.spk_num.specs.Weights.{attenuated, series, factor_of, weight_of}
 use Rattle.spk_num.proofs.WeightSteps.{at_most_first, no_factors, first_factor, inverse_e}

@@ -1,6 +1,6 @@
 //! Owned text that contracts see as its bytes.
 
-ghost use Rattle.std.specs.Prelude.{◌≡◌, IfOk};
+ghost use Rattle.std.specs.Prelude.{◌≡◌, IfOk, string_bytes};
 ghost use Rattle.std.specs.Str.{IsAscii};
 
 use std::alloc::{AllocError, Global};
@@ -28,6 +28,13 @@ impl Text {
     {
         let string = String::from_str(alloc, text)?;
         Ok(Text { string })
+    }
+
+    /// The text that a `String` is. It takes no memory.
+    pub fn from_string(string: String) -> Text
+        ensures { result ≡ string_bytes string }
+    {
+        Text { string }
     }
 
     /// The text of these bytes, which are all ASCII.
@@ -93,6 +100,8 @@ mod tests {
         assert_eq!(rt; ascii.as_str(), "log.spparks");
         assert_eq!(rt; ascii == Text::copy(rt.alloc(), "log.spparks")?, true);
         assert_eq!(rt; ascii == copied, false);
+        let made = Text::from_string(String::from_str(rt.alloc(), "größe")?);
+        assert_eq!(rt; made == copied, true);
         Ok(())
     }
 }

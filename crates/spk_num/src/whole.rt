@@ -34,16 +34,22 @@ fn is_whole(word: &[u8]) -> bool
     are_digits(word) && !word.is_empty() && word.len() <= MOST_DIGITS
 }
 
+/// The whole number that a word of bytes is. Leading zeros are allowed.
+#[tactic(auto, using(crate::proofs::Wholes::digits_are_text, crate::proofs::Wholes::whole_is_read))]
+pub fn whole_of_bytes(word: &[u8]) -> Option<u64>
+    ensures { result ≡ whole_of word.now }
+{
+    if !is_whole(word) {
+        return None;
+    }
+    std::str::from_utf8(word).ok()?.parse::<u64>().ok()
+}
+
 /// The whole number that a word is. Leading zeros are allowed.
-#[tactic(auto, using(crate::proofs::Wholes::whole_reads))]
 pub fn whole_of(word: &Text) -> Option<u64>
     ensures { result ≡ whole_of word.now }
 {
-    if is_whole(word.as_bytes()) {
-        word.as_str().parse::<u64>().ok()
-    } else {
-        None
-    }
+    whole_of_bytes(word.as_bytes())
 }
 
 /// The whole number that a word is, where it is in a range, both ends taken.
@@ -75,6 +81,13 @@ mod tests {
             let text = Text::copy(rt.alloc(), word)?;
             assert_eq!(rt; whole_of(&text), wanted, "at {word}");
         }
+        Ok(())
+    }
+
+    #[test]
+    fn reads_no_bytes_that_are_no_text(rt: HostRuntime) -> Result<(), Fail> {
+        assert_eq!(rt; whole_of_bytes(&[49, 255]), None);
+        assert_eq!(rt; whole_of_bytes(b"0120"), Some(120));
         Ok(())
     }
 

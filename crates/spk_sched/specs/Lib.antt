@@ -3,3 +3,4 @@ pub mod Decompositions
 pub mod Plans
 pub mod Turns
 pub mod Globals
+pub mod SiteTexts

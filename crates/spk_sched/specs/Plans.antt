@@ -1,6 +1,6 @@
 -- The plan of a run: its cycles, the step of each sector in each cycle, and the marks at which something is written. It is made
 -- after SPPARKS's runs; the length of a cycle and the times are our own rules.
-use Rattle.std.specs.Prelude.{ℕ, ◌+◌, ◌-◌, ◌*◌, ◌/◌, ◌%◌, ◌^◌, ◌≤◌, ◌≡◌, Bool, true, not, ◌&&◌, ◌||◌, ◌==◌, nat_lt, min, max, if◌then◌else◌, List, [], ◌∷◌, map, filter, Option, Some, None, Result, Ok, Err}
+use Rattle.std.specs.Prelude.{ℕ, zero, suc, ◌+◌, ◌-◌, ◌*◌, ◌/◌, ◌%◌, ◌^◌, ◌≤◌, ◌≡◌, Bool, true, not, ◌&&◌, ◌||◌, ◌==◌, nat_lt, min, max, if◌then◌else◌, List, [], ◌∷◌, map, filter, Option, Some, None, Result, Ok, Err}
 use Rattle.std.specs.Int.{div_ceil}
 use Rattle.std.specs.Option.{option_map_or}
 use Rattle.std.specs.List.{range_with_len, list_any, All}
@@ -88,6 +88,10 @@ IsPlanOr settings (Err Memory) = plan_fault settings ≡ None
 abbrev pub times_by : Due → ℕ → ℕ
 times_by due time = if nat_lt time due.next then 0 else (time - due.next) / due.delta + 1
 
+-- the least of them above a time by which one has come
+abbrev pub next_above : ℕ → Due → ℕ
+next_above time due = due.next + times_by due time * due.delta
+
 -- one of them has come since the first of two times
 abbrev pub is_reached : Due → ℕ → ℕ → Bool
 is_reached due before time = nat_lt (times_by due before) (times_by due time)
@@ -103,12 +107,17 @@ lines_due settings = if settings.stats == 0 then [] else (record { next = settin
 abbrev pub time_after : RunSettings → ℕ → ℕ
 time_after settings done = settings.start + elapsed settings done
 
--- a line of statistics or a snapshot is written at a cycle's end where one is due, and a line after the last cycle
+-- a line of statistics is written at a cycle's end where one is due, and after the last cycle
+abbrev pub is_line_due : RunSettings → ℕ → Bool
+is_line_due settings cycle =
+    (cycle + 1 == cycles settings) || is_any_reached (lines_due settings) (elapsed settings cycle) (elapsed settings (cycle + 1))
+
+-- a line of statistics or a snapshot is written at a cycle's end where one is due
 abbrev pub is_mark : RunSettings → ℕ → Bool
-is_mark settings cycle =
-    (cycle + 1 == cycles settings)
-    || is_any_reached (lines_due settings) (elapsed settings cycle) (elapsed settings (cycle + 1))
-    || is_any_reached settings.dumps (time_after settings cycle) (time_after settings (cycle + 1))
+is_mark settings cycle = is_line_due settings cycle || is_any_reached settings.dumps (time_after settings cycle) (time_after settings (cycle + 1))
+
+abbrev pub is_line_after : RunSettings → ℕ → Bool
+is_line_after settings step = is_last_of_cycle settings step && is_line_due settings (cycle_at settings step)
 
 abbrev pub is_mark_after : RunSettings → ℕ → Bool
 is_mark_after settings step = is_last_of_cycle settings step && is_mark settings (cycle_at settings step)
@@ -120,3 +129,8 @@ marks_from settings cycle = map (λ marked. marked + 1) (filter (is_mark setting
 -- all marks: the run's start is one
 abbrev pub marks : RunSettings → List ℕ
 marks settings = 0 ∷ marks_from settings 0
+
+-- a line is written at this mark
+abbrev pub has_line : RunSettings → ℕ → Bool
+has_line settings zero = true
+has_line settings (suc cycle) = is_line_due settings cycle

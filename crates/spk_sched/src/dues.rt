@@ -1,7 +1,7 @@
 //! When snapshots are due.
 
-ghost use Rattle.std.specs.Prelude.{◌≡◌, ◌≤◌, IfOk};
-ghost use Rattle.spk_sched.specs.Plans.{times_by, is_reached};
+ghost use Rattle.std.specs.Prelude.{◌≡◌, ◌≤◌, ◌<◌, ◌+◌, ◌^◌, IfOk};
+ghost use Rattle.spk_sched.specs.Plans.{times_by, is_reached, next_above};
 
 use std::alloc::{AllocError, Global};
 use std::marker::Model;
@@ -38,6 +38,18 @@ impl Due {
             Some(since) => u128::from(since / self.delta) + 1,
             None => 0,
         }
+    }
+
+    /// The least of its times above this one. At this time a snapshot has been due.
+    pub fn next_above(self, time: u64) -> u64
+        requires some { 1 ≤ self.delta }
+        requires come { self.next ≤ time }
+        requires fits { time + self.delta < 2 ^ 64 }
+        ensures next { result ≡ next_above time self }
+        ensures above { time < result }
+    {
+        let times = (time - self.next) / self.delta + 1;
+        self.next + times * self.delta
     }
 
     /// Whether a snapshot was due after the first of two times, and not after the second.
@@ -101,6 +113,17 @@ mod tests {
                 want,
                 "from {before} to {time}"
             );
+        }
+    }
+
+    #[test]
+    fn is_due_next_above_a_time(rt: HostRuntime) {
+        let due = Due {
+            next: 15,
+            delta: 20,
+        };
+        for (time, want) in [(15, 35), (34, 35), (35, 55), (60, 75)] {
+            assert_eq!(rt; due.next_above(time), want, "above {time}");
         }
     }
 

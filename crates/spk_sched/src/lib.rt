@@ -3,7 +3,9 @@
 
 pub mod counts;
 pub mod dues;
+pub mod energy_kind;
 pub mod grid;
+pub mod letter;
 mod part;
 pub mod plan;
 pub mod run_settings;
@@ -11,7 +13,9 @@ pub mod sectors;
 
 pub use counts::Counts;
 pub use dues::{Due, Dues};
+pub use energy_kind::EnergyKind;
 pub use grid::{Grid, GridFault};
+pub use letter::Letter;
 pub use plan::{Plan, PlanFault};
 pub use run_settings::{Cycle, RunSettings};
 pub use sectors::Sectors;

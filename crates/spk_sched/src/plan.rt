@@ -1,7 +1,7 @@
 //! The plan of a run: its cycles and steps, and the marks at which something is written.
 
 ghost use Rattle.std.specs.Prelude.{◌≡◌, ◌⊎◌, ◌+◌, ◌*◌, ◌^◌, ◌<◌, ◌≤◌, Some, None, IfOk, IfErr};
-ghost use Rattle.spk_sched.specs.Plans.{IsRun, IsPlanOr, ticks_by, cycle_ticks, cycles, cycle_at, elapsed, is_mark, is_mark_after, is_last_of_cycle, is_whole, is_too_long, is_any_reached, lines_due, plan_fault, sector_at, steps, window};
+ghost use Rattle.spk_sched.specs.Plans.{IsRun, IsPlanOr, ticks_by, cycle_ticks, cycles, cycle_at, elapsed, is_line_after, is_line_due, is_mark, is_mark_after, is_last_of_cycle, is_whole, is_too_long, is_any_reached, lines_due, plan_fault, sector_at, steps, window};
 
 use crate::dues::Due;
 use crate::run_settings::{Cycle, RunSettings};
@@ -133,7 +133,7 @@ impl RunSettings {
 
     /// Whether a line of statistics was due after the first of two times, and not after the second. Both are counted from
     /// the run's start.
-    fn is_line_due(&self, before: u64, time: u64) -> bool
+    fn is_line_reached(&self, before: u64, time: u64) -> bool
         ensures { result ≡ is_any_reached (lines_due self.now) before time }
     {
         let lines = Due {
@@ -240,6 +240,17 @@ impl Plan {
         self.settings.sweep
     }
 
+    /// Whether a line of statistics is written at the end of a cycle.
+    fn is_line_due(&self, cycle: u64) -> bool
+        requires { cycle < cycles self.now }
+        ensures { result ≡ is_line_due self.now cycle }
+    {
+        let count = self.count;
+        let before = self.elapsed(cycle);
+        let after = self.elapsed(cycle + 1);
+        cycle + 1 == count || self.settings.is_line_reached(before, after)
+    }
+
     /// Whether something is written at the end of a cycle.
     fn is_mark(&self, cycle: u64) -> bool
         requires { cycle < cycles self.now }
@@ -248,9 +259,15 @@ impl Plan {
         let start = self.settings.start;
         let before = self.elapsed(cycle);
         let after = self.elapsed(cycle + 1);
-        cycle + 1 == self.count
-            || self.settings.is_line_due(before, after)
-            || self.settings.is_snapshot_due(start + before, start + after)
+        self.is_line_due(cycle) || self.settings.is_snapshot_due(start + before, start + after)
+    }
+
+    /// Whether a step is the last of its cycle and a line of statistics is written after it.
+    pub fn line_after(&self, step: u64) -> bool
+        requires { step < steps self.now }
+        ensures { result ≡ is_line_after self.now step }
+    {
+        self.sector_of(step) + 1 == self.settings.sectors && self.is_line_due(self.cycle_of(step))
     }
 
     /// Whether a step is the last of its cycle and something is written after it.

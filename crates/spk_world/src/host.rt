@@ -7,10 +7,13 @@ ghost use Rattle.spk_world.specs.Outside.{added, started, spoken, says, adds, st
 ghost use Rattle.spk_world.specs.Causes.{FileCause, ScreenCause, LoadCause, Loads};
 ghost use Rattle.spk_world.specs.Host.{fault_of_kind, Gives, Takes};
 
+mod kept_file;
+
 use crate::memory::raise;
 use crate::{Failed, LoadFault, World};
+use kept_file::KeptFile;
 use std::alloc::Global;
-use std::fs::{self, OpenOptions};
+use std::fs::{self, File, OpenOptions};
 use std::io::{self, ErrorKind, Read, Write};
 use std::rt::Files;
 
@@ -21,9 +24,13 @@ use std::rt::Files;
 ///
 /// A file that isn't there, also where its folder isn't, is missing; a folder can't be loaded. A load ends at its
 /// limit. A write that takes nothing of a piece that isn't empty has failed. A write that is interrupted is made again.
+///
+/// The file that was added to last stays open, if its name has at most 255 bytes, so that the next add by this name need
+/// not open it. It is closed by any start, by an add by another name, and by an add that fails.
 #[derive(Drop)]
 pub struct HostWorld<R> {
     rt: R,
+    last_added: Option<KeptFile<File>>,
     load_faults: u64,
     file_faults: u64,
     screen_faults: u64,
@@ -38,6 +45,7 @@ impl<R> HostWorld<R> {
     {
         HostWorld {
             rt,
+            last_added: None,
             load_faults: 0,
             file_faults: 0,
             screen_faults: 0,
@@ -46,7 +54,7 @@ impl<R> HostWorld<R> {
 }
 
 #[tactic(auto, using(crate::proofs::Untold::told_nothing), unfolding(crate::specs::Outside::after_told))]
-impl<R: Files + Print + Drop> World for HostWorld<R> {
+impl<R: Files<File = File> + Print + Drop> World for HostWorld<R> {
     ghost use Rattle.spk_world.specs.Host.{host_state, host_faults, load_counted, file_counted, screen_counted};
 
     ghost state = { host_state };
@@ -76,7 +84,7 @@ impl<R: Files + Print + Drop> World for HostWorld<R> {
 
         ensures counts { host_faults self.new ≡ file_counted (host_faults self.old) result }
     {
-        match fs::create(&self.rt, name) {
+        match start_file(&self.rt, &mut self.last_added, name) {
             Ok(_) => Ok(()),
             Err(_) => {
                 raise(&mut self.file_faults);
@@ -92,7 +100,7 @@ impl<R: Files + Print + Drop> World for HostWorld<R> {
 
         ensures counts { host_faults self.new ≡ file_counted (host_faults self.old) result }
     {
-        match add_to_file(&self.rt, name, bytes) {
+        match add_to_file(&self.rt, &mut self.last_added, name, bytes) {
             Ok(()) => Ok(()),
             Err(_) => {
                 raise(&mut self.file_faults);
@@ -127,11 +135,43 @@ fn load_file<R: Files>(rt: &R, alloc: Global, name: &str, limit: u64) -> Result<
     }
 }
 
-fn add_to_file<R: Files>(rt: &R, name: &str, bytes: &[u8]) -> io::Result<()> {
+// Closes the file that is open, and makes this one empty.
+fn start_file<R: Files<File = File>>(
+    rt: &R,
+    last: &mut Option<KeptFile<File>>,
+    name: &str,
+) -> io::Result<()>
+    ensures { last.new ≡ None }
+{
+    *last = None;
+    fs::create(rt, name)?;
+    Ok(())
+}
+
+// Adds to the file that is open, if it has this name. Otherwise closes it, and opens the one that has. It stays open where
+// all was written.
+fn add_to_file<R: Files<File = File>>(
+    rt: &R,
+    last: &mut Option<KeptFile<File>>,
+    name: &str,
+    bytes: &[u8],
+) -> io::Result<()>
+    ensures named { IfSome last.new (λ kept. kept.name ≡ name.now) }
+    ensures err { OnErr result (last.new ≡ None) }
+{
+    if let Some(mut kept) = last.take()
+        && kept.has_name(name)
+    {
+        write_whole(&mut kept.file, bytes)?;
+        *last = Some(kept);
+        return Ok(());
+    }
     let mut how = OpenOptions::new();
     how.append(true).create(true);
     let mut file = how.open(rt, name)?;
-    write_whole(&mut file, bytes)
+    write_whole(&mut file, bytes)?;
+    *last = KeptFile::new(name, file);
+    Ok(())
 }
 
 // Reads to the end, and one byte past the limit where there are more.
@@ -181,6 +221,10 @@ fn write_whole<W: Write>(to: &mut W, bytes: &[u8]) -> io::Result<()>
 #[cfg(test)]
 mod tests {
     use super::*;
+    use std::alloc::Allocator;
+    use std::cell::Cell;
+    use std::fmt::Display;
+    use std::fs::Metadata;
     use std::test::Fail;
 
     // A writer that is interrupted at its first call and at each second one after it, and else takes one byte.
@@ -214,6 +258,109 @@ mod tests {
         write_whole(&mut writer, b"abc")?;
         assert_eq!(rt; writer.taken.as_slice(), b"abc".as_slice());
         assert_eq!(rt; writer.calls, 6);
+        Ok(())
+    }
+
+    // The machine's files and standard output, with a count of the files that were opened.
+    #[derive(Drop)]
+    struct Counting {
+        rt: HostRuntime,
+        opened: Cell<u32>,
+    }
+
+    impl Files for Counting {
+        type File = File;
+
+        type Dir = File;
+
+        fn open_file(&self, how: &OpenOptions, path: &str) -> io::Result<File> {
+            self.opened.set(self.opened.get().wrapping_add(1));
+            self.rt.open_file(how, path)
+        }
+
+        fn metadata(&self, path: &str) -> io::Result<Metadata> {
+            self.rt.metadata(path)
+        }
+
+        fn open_dir(&self, _path: &str) -> io::Result<File> {
+            Err(io::Error::from(ErrorKind::Unsupported))
+        }
+
+        fn symlink_metadata(&self, _path: &str) -> io::Result<Metadata> {
+            Err(io::Error::from(ErrorKind::Unsupported))
+        }
+
+        fn copy(&self, _from: &str, _to: &str) -> io::Result<u64> {
+            Err(io::Error::from(ErrorKind::Unsupported))
+        }
+
+        fn rename(&self, _from: &str, _to: &str) -> io::Result<()> {
+            Err(io::Error::from(ErrorKind::Unsupported))
+        }
+
+        fn remove_file(&self, _path: &str) -> io::Result<()> {
+            Err(io::Error::from(ErrorKind::Unsupported))
+        }
+
+        fn create_dir(&self, _path: &str) -> io::Result<()> {
+            Err(io::Error::from(ErrorKind::Unsupported))
+        }
+
+        fn remove_dir(&self, _path: &str) -> io::Result<()> {
+            Err(io::Error::from(ErrorKind::Unsupported))
+        }
+
+        fn remove_dir_all<A: Allocator>(&self, _alloc: A, _path: &str) -> io::Result<()> {
+            Err(io::Error::from(ErrorKind::Unsupported))
+        }
+    }
+
+    impl Print for Counting {
+        fn print<D: Display + Drop>(&self, value: D) -> io::Result<()> {
+            self.rt.print(value)
+        }
+
+        fn println<D: Display + Drop>(&self, value: D) -> io::Result<()> {
+            self.rt.println(value)
+        }
+
+        fn write_all(&self, bytes: &[u8]) -> io::Result<()> {
+            self.rt.write_all(bytes)
+        }
+    }
+
+    #[test]
+    fn keeps_the_last_file_open(rt: HostRuntime) -> Result<(), Fail> {
+        let mut world = HostWorld::new(Counting {
+            rt: rt.clone()?,
+            opened: Cell::new(0),
+        });
+        fs::create_dir_all(&rt, "kept")?;
+        for (name, opened) in [
+            ("kept/log", 1),
+            ("kept/log", 1),
+            ("kept/dump", 2),
+            ("kept/log", 3),
+            ("kept/log", 3),
+        ] {
+            world.add(name, b"a")?;
+            assert_eq!(rt; world.rt.opened.get(), opened, "at {name}");
+        }
+        assert_eq!(rt; fs::read_to_string(&rt, "kept/log")?.as_str(), "aaaa");
+        assert_eq!(rt; fs::read_to_string(&rt, "kept/dump")?.as_str(), "a");
+
+        world.start("kept/log")?;
+        world.add("kept/log", b"bc")?;
+        world.add("kept/log", b"d")?;
+        assert_eq!(rt; fs::read_to_string(&rt, "kept/log")?.as_str(), "bcd");
+        world.start("kept/dump")?;
+        world.add("kept/log", b"e")?;
+        assert_eq!(rt; world.rt.opened.get(), 7);
+        assert_eq!(rt; fs::read_to_string(&rt, "kept/log")?.as_str(), "bcde");
+
+        assert_eq!(rt; world.file_faults, 0);
+
+        fs::remove_dir_all(&rt, "kept")?;
         Ok(())
     }
 

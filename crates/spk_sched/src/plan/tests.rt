@@ -151,14 +151,24 @@ fn a_cycle_is_short_where_weights_are_large(rt: HostRuntime) {
     compare_first_window(&rt, rt.alloc(), &settings, 31);
 }
 
-/// Compares the marks after the cycles of a run of one sector.
-fn compare_marks(rt: &impl Abort, alloc: Global, settings: &RunSettings, want: [bool; 5])
+/// After the last of five cycles alone.
+const LAST: [bool; 5] = [false, false, false, false, true];
+
+/// Compares after which cycles of a run of one sector a line is written, and after which anything.
+fn compare_marks(
+    rt: &impl Abort,
+    alloc: Global,
+    settings: &RunSettings,
+    lines: [bool; 5],
+    marks: [bool; 5],
+)
     requires { IsRun settings.now }
 {
     let plan = plan_of(rt, alloc, settings);
     assert_eq!(rt; plan.steps(), 5);
-    for (step, marked) in (0..5).zip(want) {
+    for (step, (lined, marked)) in (0..5).zip(lines.into_iter().zip(marks)) {
         assert!(rt; step < plan.steps());
+        assert_eq!(rt; plan.line_after(step), lined, "at {step}");
         assert_eq!(rt; plan.mark_after(step), marked, "at {step}");
     }
 }
@@ -169,7 +179,7 @@ fn compare_dump(rt: &impl Abort, alloc: Global, due: Due, want: [bool; 5]) -> Re
 {
     let mut settings = run_of(alloc, 5 * TIME, Cycle::Ticks(TIME));
     settings.dumps = Dues::from_vec(vec![in alloc; due]?);
-    compare_marks(rt, alloc, &settings, want);
+    compare_marks(rt, alloc, &settings, LAST, want);
     Ok(())
 }
 
@@ -205,14 +215,10 @@ fn a_snapshot_is_due_at_the_end_or_later(rt: HostRuntime) -> Result<(), Fail> {
 #[test]
 fn marks_where_lines_are_due(rt: HostRuntime) {
     let mut settings = run_of(rt.alloc(), 5 * TIME, Cycle::Ticks(TIME));
-    compare_marks(
-        &rt,
-        rt.alloc(),
-        &settings,
-        [false, false, false, false, true],
-    );
+    compare_marks(&rt, rt.alloc(), &settings, LAST, LAST);
     // The cycles end at 4, 5, 6, 7 and 8 units, and lines are due at 5 and 7.
     settings.start = 3 * TIME;
     settings.stats = 2 * TIME;
-    compare_marks(&rt, rt.alloc(), &settings, [false, true, false, true, true]);
+    let lines = [false, true, false, true, true];
+    compare_marks(&rt, rt.alloc(), &settings, lines, lines);
 }

@@ -4,7 +4,7 @@ use Rattle.std.proofs.lemmas.List.Elements.{All-from_get_or}
 use Rattle.std.specs.Prelude.{codes}
 use Rattle.spk_num.specs.Decimal.{ticks_text}
 use Rattle.spk_files.specs.SiteFiles.{site_file}
-use Rattle.spk_files.specs.SiteTexts.{rows_text, sites_text}
+use Rattle.spk_sched.specs.SiteTexts.{rows_text, sites_text}
 use Rattle.spk_files.proofs.RoundTrip.{reads_back}
 use Rattle.spk_files.proofs.sites.sites_text.Goals as goal
 

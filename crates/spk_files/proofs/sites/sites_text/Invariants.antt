@@ -1,5 +1,5 @@
 use Rattle.std.proofs.Common.{◌≡◌, ◌+◌, ◌++◌, drop}
-use Rattle.spk_files.specs.SiteTexts.{rows_text, sites_text}
+use Rattle.spk_sched.specs.SiteTexts.{rows_text, sites_text}
 use Rattle.spk_files.proofs.sites.sites_text.Given as goal
 
 -- the rows so far, with those of the other values, make up the text

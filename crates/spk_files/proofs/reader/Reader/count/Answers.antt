@@ -10,11 +10,11 @@ use Rattle.spk_files.proofs.reader.Reader.count.Goals as goal
 
 pub returns-in_default-clause-reads : goal.returns-in_default-clause-reads
 returns-in_default-clause-reads c = λ wanted first before has none.
-    other_heading wanted first (c.args.word.now ∷ codes "sites" ∷ []) before c.args.self.now has none refl refl (sym c.whole_of.ensures ∙ c.in_default.is)
+    other_heading wanted first (c.args.word.now ∷ codes "sites" ∷ []) before c.args.self.now has none refl refl (sym c.whole_of_bytes.ensures ∙ c.in_default.is)
 
 pub returns-clause-reads : goal.returns-clause-reads
 returns-clause-reads c = λ wanted first before has none.
-    let count : whole_of c.args.word.now ≡ Some c.in-Some.count = sym c.whole_of.ensures ∙ c.in-Some.is in
+    let count : whole_of c.args.word.now ≡ Some c.in-Some.count = sym c.whole_of_bytes.ensures ∙ c.in-Some.is in
     let same : (c.in-Some.count == wanted.sites) ≡ true = grind (arith, nat_tests, has.sites, c.from.ensures, c.if-count-from.false) in (
       heading_line wanted first (c.args.word.now ∷ codes "sites" ∷ []) before c.args.self.now has none ∙ ap (count_fault wanted.sites) count ∙ rw same refl,
       heading_read wanted first (c.args.word.now ∷ codes "sites" ∷ []) before c.args.self.now c.args.self.now.begun true has none none
