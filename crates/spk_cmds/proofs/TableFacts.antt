@@ -1,22 +1,26 @@
 -- Each command that the table reads is well-formed.
-use Rattle.std.proofs.Common.{◌≡◌, ℕ, ◌≤◌, Bool, true, false, cond, List, [], ◌∷◌, Option, Some, None, Result, Ok, Err, ap, subst, refl, arith}
+use Rattle.std.proofs.Common.{◌≡◌, ℕ, ◌≤◌, Bool, true, false, cond, List, [], ◌∷◌, length, Option, Some, None, Result, Ok, Err, ap, subst, refl, ◌∙◌, arith}
 use Rattle.std.specs.Prelude.{codes, slice_get}
 use Rattle.std.specs.Result.{IfOk}
 use Rattle.std.specs.Str.{bytes_eq}
+use Rattle.std.proofs.lemmas.List.{length-map}
 use Rattle.spk_num.specs.Results.{IsPlainOrMemory}
 use Rattle.spk_num.proofs.ResultLaws.{plain_is}
 use Rattle.spk_cmds.specs.declared.command.AppStyle.TheVariants.{DiffusionOff, DiffusionLinear}
 use Rattle.spk_cmds.specs.declared.command.Command.{Command}
 use Rattle.spk_cmds.specs.declared.command.CommandFault.{CommandFault}
 use Rattle.spk_cmds.specs.declared.command.CommandFault.TheVariants.{NotBuilt, UnknownStyle}
+use Rattle.spk_cmds.specs.declared.command.DumpStyle.TheVariants as dump
+use Rattle.spk_cmds.specs.declared.value.Value.{Value}
 use Rattle.spk_cmds.specs.declared.value.Reading.{Reading}
 use Rattle.spk_cmds.specs.Faults.{is_memory}
 use Rattle.spk_cmds.specs.Kinds.{is_among}
-use Rattle.spk_cmds.specs.Forms.{Form, form_read}
+use Rattle.spk_cmds.specs.Forms.{Form, UpTo, form_read}
 use Rattle.spk_cmds.specs.Makers.{made}
-use Rattle.spk_cmds.specs.Values.{word_at}
+use Rattle.spk_cmds.specs.Makers.Dump.{field_of, text_fields}
+use Rattle.spk_cmds.specs.Values.{word_at, word_by, words_of}
 use Rattle.spk_cmds.specs.Table as table
-use Rattle.spk_cmds.specs.WellFormed.{IsApp, IsWellFormed}
+use Rattle.spk_cmds.specs.WellFormed.{IsFromTo, IsApp, IsWellFormed}
 use Rattle.spk_cmds.proofs.ReadFacts.{IsReadBy, bind_ok, read_is_in}
 
 -- what values of a form's kinds make is well-formed
@@ -56,10 +60,20 @@ one_of_two false = tt
 diffusion_sound : IsSound table.diffusion
 diffusion_sound reading read = one_of_two (bytes_eq (word_at reading.values 1) (codes "off"))
 
--- The same of the whole table. A new row changes nothing here, unless a word chooses a part of its command.
+-- so is a text dump, which has fields whether words name some or not
+some_fields : (words : List Value) → length words ≤ 16 → IsFromTo 1 16 (length (text_fields words))
+some_fields [] few = (omega arith, omega arith)
+some_fields (word ∷ words) few =
+    let as_many : length (text_fields (word ∷ words)) ≡ length (word ∷ words) = length-map (words_of (word ∷ words)) field_of ∙ length-map (word ∷ words) (λ v. word_by (Some v)) in
+    (omega arith, omega arith)
+
+text_dump_sound : IsSound (table.dump_form dump.Text (UpTo 16 table.field))
+text_dump_sound reading read = assumption (some_fields reading.more read.1.0)
+
+-- The same of the whole table. A new row changes nothing here, unless words choose a part of its command.
 table_sound : AreSoundRows table.table
 unfolding table.table
-table_sound = assumption (three, cylinder_sound, diffusion_sound)
+table_sound = assumption (three, cylinder_sound, diffusion_sound, text_dump_sound)
 
 -- so is the form that words find
 chosen : {A : Type 0} (P : A → Type 0) (test : Bool) (a b : A) (other : Option A) → P a → (other ≡ Some b → P b) → cond test (Some a) other ≡ Some b → P b

@@ -1,5 +1,6 @@
 -- The command that the values of its words make.
 pub mod App
+pub mod Dump
 pub mod Region
 pub mod Set
 use Rattle.std.specs.Prelude.{false, [], ◌∷◌}
@@ -13,6 +14,7 @@ use Rattle.spk_cmds.specs.declared.form.Maker.TheVariants as maker
 use Rattle.spk_cmds.specs.declared.value.Reading.{Reading}
 use Rattle.spk_cmds.specs.Values.{number_at, decimal_at, word_at, words_of}
 use Rattle.spk_cmds.specs.Makers.App.{diffusion}
+use Rattle.spk_cmds.specs.Makers.Dump.{dump_of}
 use Rattle.spk_cmds.specs.Makers.Region.{block, sphere, cylinder, region_of}
 use Rattle.spk_cmds.specs.Makers.Set.{range_of, set_to}
 
@@ -35,10 +37,14 @@ made maker.CreateSites reading = command.CreateSites
 made maker.SetValue reading = set_to (Value (number_at reading.values 2)) reading.more
 made maker.SetRange reading = set_to (range_of reading.values) reading.more
 made maker.SetUnique reading = set_to Unique reading.more
+made maker.ReadSites reading = command.ReadSites (word_at reading.values 0)
 made (maker.Solve style) reading = command.Solve style
 made (maker.Sweep style) reading = command.Sweep style
 made maker.Temperature reading = command.Temperature (decimal_at reading.values 0)
 made maker.Stats reading = command.Stats (decimal_at reading.values 0)
+made maker.DiagEnergy reading = command.DiagEnergy
+made (maker.Dump style) reading = dump_of style reading.values reading.more
+made maker.Undump reading = command.Undump (word_at reading.values 0)
 made maker.Run reading = command.Run (decimal_at reading.values 0)
 made maker.Print reading = command.Print (word_at reading.values 0)
 made (maker.SetEcho style) reading = command.SetEcho style

@@ -10,6 +10,8 @@ use Rattle.spk_num.specs.declared.sweep.Sweep.TheVariants.{Random, Raster}
 use Rattle.spk_cmds.specs.declared.options.Echo.TheVariants as echo
 use Rattle.spk_cmds.specs.declared.command.AppStyle.{AppStyle}
 use Rattle.spk_cmds.specs.declared.command.AppStyle.TheVariants.{Ising, IsingSingle}
+use Rattle.spk_cmds.specs.declared.command.DumpStyle.{DumpStyle}
+use Rattle.spk_cmds.specs.declared.command.DumpStyle.TheVariants as dump
 use Rattle.spk_cmds.specs.declared.command.SolveStyle.{SolveStyle}
 use Rattle.spk_cmds.specs.declared.command.SolveStyle.TheVariants.{Linear, Tree, Group}
 use Rattle.spk_cmds.specs.declared.command.Command.{Command}
@@ -17,8 +19,8 @@ use Rattle.spk_cmds.specs.declared.command.CommandFault.{CommandFault}
 use Rattle.spk_cmds.specs.declared.command.CommandFault.TheVariants.{UnknownCommand, UnknownStyle, WrongCount, NotBuilt}
 use Rattle.spk_cmds.specs.declared.form.Maker.{Maker}
 use Rattle.spk_cmds.specs.declared.form.Maker.TheVariants as maker
-use Rattle.spk_cmds.specs.Kinds.{Kind, OneOf, WholeNumber, WholeUpToNext, DecimalNumber, BoundNumber, NameWord, AnyWord, is_among}
-use Rattle.spk_cmds.specs.Forms.{Form, Keyword, Tail, NoTail, Pairs, Optional, Counted, form_read}
+use Rattle.spk_cmds.specs.Kinds.{Kind, OneOf, WholeNumber, WholeUpToNext, DecimalNumber, BoundNumber, NameWord, FileWord, AnyWord, is_among}
+use Rattle.spk_cmds.specs.Forms.{Form, Keyword, Tail, NoTail, Pairs, Optional, Counted, UpTo, form_read}
 use Rattle.spk_cmds.specs.Makers.{made}
 
 -- a form with its deciding word
@@ -133,6 +135,14 @@ set_pairs = Pairs (keyword (codes "fraction") (DecimalNumber (pos 1) (pos 100000
 abbrev pub set_form : Maker → List Kind → Form
 set_form maker kinds = record { maker = maker; kinds = site ∷ AnyWord ∷ kinds; tail = set_pairs }
 
+-- a column of a text dump
+abbrev pub field : Kind
+field = OneOf (codes "id" ∷ codes "site" ∷ codes "i1" ∷ codes "x" ∷ codes "y" ∷ codes "z" ∷ codes "energy" ∷ []) []
+
+-- a dump; the fields of one of text stand last
+abbrev pub dump_form : DumpStyle → Tail → Form
+dump_form style tail = record { maker = maker.Dump style; kinds = NameWord ∷ AnyWord ∷ DecimalNumber (pos 1) (pos 1000000000000000) ∷ FileWord ∷ []; tail = tail }
+
 abbrev pub unbuilt : List ℕ → Row
 unbuilt name = record { name = name; forms = Unbuilt }
 
@@ -203,6 +213,15 @@ sets =
     ∷ styled (codes "unique") (set_form maker.SetUnique [])
     ∷ []
 
+abbrev pub diagnostics : List Styled
+diagnostics = styled (codes "energy") (words_alone maker.DiagEnergy (AnyWord ∷ [])) ∷ []
+
+abbrev pub dumps : List Styled
+dumps =
+    styled (codes "text") (dump_form dump.Text (UpTo 16 field))
+    ∷ styled (codes "sites") (dump_form dump.Sites NoTail)
+    ∷ []
+
 -- the commands in the order of the manual
 unfoldable pub table : List Row
 table =
@@ -216,7 +235,7 @@ table =
     ∷ one (codes "create_box") (words_alone maker.CreateBox (NameWord ∷ []))
     ∷ one (codes "create_sites") (words_alone maker.CreateSites (OneOf (codes "box" ∷ []) [] ∷ []))
     ∷ several (codes "set") 1 sets []
-    ∷ unbuilt (codes "read_sites")
+    ∷ one (codes "read_sites") (words_alone maker.ReadSites (FileWord ∷ []))
     ∷ unbuilt (codes "write_restart")
     ∷ unbuilt (codes "read_restart")
     ∷ unbuilt (codes "sector")
@@ -224,9 +243,9 @@ table =
     ∷ several (codes "sweep") 0 sweeps (codes "color" ∷ [])
     ∷ one (codes "temperature") (words_alone maker.Temperature (DecimalNumber (pos 0) (pos 1000000000000) ∷ []))
     ∷ one (codes "stats") (words_alone maker.Stats (DecimalNumber (pos 0) (pos 1000000000000000) ∷ []))
-    ∷ unbuilt (codes "diag_style")
-    ∷ unbuilt (codes "dump")
-    ∷ unbuilt (codes "undump")
+    ∷ several (codes "diag_style") 0 diagnostics []
+    ∷ several (codes "dump") 1 dumps []
+    ∷ one (codes "undump") (words_alone maker.Undump (NameWord ∷ []))
     ∷ one (codes "run") (words_alone maker.Run (DecimalNumber (pos 0) (pos 4000000000000000) ∷ []))
     ∷ one (codes "print") (words_alone maker.Print (AnyWord ∷ []))
     ∷ several (codes "echo") 0 echo_styles []

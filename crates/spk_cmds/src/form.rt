@@ -1,6 +1,6 @@
 //! Forms of commands as data: the kinds of their words, and what may stand after these.
 
-use crate::command::{AppStyle, SolveStyle};
+use crate::command::{AppStyle, DumpStyle, SolveStyle};
 use crate::options::Echo;
 use spk_num::style::Style;
 use spk_num::sweep::Sweep;
@@ -66,10 +66,14 @@ pub enum Maker {
     SetValue,
     SetRange,
     SetUnique,
+    ReadSites,
     Solve(SolveStyle),
     Sweep(Sweep),
     Temperature,
     Stats,
+    DiagEnergy,
+    Dump(DumpStyle),
+    Undump,
     Run,
     Print,
     SetEcho(Echo),

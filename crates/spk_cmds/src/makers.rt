@@ -1,6 +1,7 @@
 //! The command that the values of its words make.
 
 mod app;
+mod dump;
 mod region;
 mod set;
 
@@ -11,6 +12,7 @@ use crate::command::{AppStyle, Command, SetValue};
 use crate::form::Maker;
 use crate::value::Reading;
 use app::diffusion;
+use dump::dump_of;
 use region::{block, cylinder, intersect_of, region_of, sphere, union_of};
 use set::{range_of, set_to};
 use spk_num::text::Text;
@@ -54,10 +56,18 @@ pub fn made(alloc: Global, maker: Maker, reading: &Reading) -> Result<Command, A
         Maker::SetValue => set_to(alloc, SetValue::Value(values.number(2)), more)?,
         Maker::SetRange => set_to(alloc, range_of(values), more)?,
         Maker::SetUnique => set_to(alloc, SetValue::Unique, more)?,
+        Maker::ReadSites => Command::ReadSites {
+            file: Text::copy(alloc, values.word(0))?,
+        },
         Maker::Solve(style) => Command::Solve { style },
         Maker::Sweep(style) => Command::Sweep { style },
         Maker::Temperature => Command::Temperature { t: decimal },
         Maker::Stats => Command::Stats { delta: decimal },
+        Maker::DiagEnergy => Command::DiagEnergy,
+        Maker::Dump(style) => dump_of(alloc, style, values, more)?,
+        Maker::Undump => Command::Undump {
+            name: Text::copy(alloc, values.word(0))?,
+        },
         Maker::Run => Command::Run { length: decimal },
         Maker::Print => Command::Print {
             text: Text::copy(alloc, values.word(0))?,

@@ -4,7 +4,7 @@ ghost use Rattle.std.specs.Prelude.{◌≡◌};
 ghost use Rattle.spk_cmds.specs.Table.{table};
 ghost use Rattle.spk_cmds.specs.TableViews.{rows_seen};
 
-use crate::command::{AppStyle, SolveStyle};
+use crate::command::{AppStyle, DumpStyle, SolveStyle};
 use crate::form::{Form, Forms, Keyword, Kind, Maker, Row, Styled, Tail};
 use crate::options::Echo;
 use spk_num::style::Style;
@@ -268,6 +268,36 @@ const SETS: &[Styled] = &[
     },
 ];
 
+/// A column of a text dump.
+const FIELD: Kind = Kind::OneOf(&["id", "site", "i1", "x", "y", "z", "energy"], &[]);
+
+/// The words of a dump before its fields.
+const NAME_STYLE_DELTA_AND_FILE: &[Kind] = &[
+    Kind::NameWord,
+    Kind::AnyWord,
+    Kind::DecimalNumber(1, 1_000_000_000_000_000),
+    Kind::FileWord,
+];
+
+const DUMPS: &[Styled] = &[
+    Styled {
+        word: "text",
+        form: Form {
+            maker: Maker::Dump(DumpStyle::Text),
+            kinds: NAME_STYLE_DELTA_AND_FILE,
+            tail: Tail::UpTo(16, FIELD),
+        },
+    },
+    Styled {
+        word: "sites",
+        form: Form {
+            maker: Maker::Dump(DumpStyle::Sites),
+            kinds: NAME_STYLE_DELTA_AND_FILE,
+            tail: Tail::NoTail,
+        },
+    },
+];
+
 const ROWS: &[Row] = &[
     Row {
         name: "seed",
@@ -331,7 +361,11 @@ const ROWS: &[Row] = &[
     },
     Row {
         name: "read_sites",
-        forms: Forms::Unbuilt,
+        forms: Forms::One(Form {
+            maker: Maker::ReadSites,
+            kinds: &[Kind::FileWord],
+            tail: Tail::NoTail,
+        }),
     },
     Row {
         name: "write_restart",
@@ -430,15 +464,30 @@ const ROWS: &[Row] = &[
     },
     Row {
         name: "diag_style",
-        forms: Forms::Unbuilt,
+        forms: Forms::Several(
+            0,
+            &[Styled {
+                word: "energy",
+                form: Form {
+                    maker: Maker::DiagEnergy,
+                    kinds: &[Kind::AnyWord],
+                    tail: Tail::NoTail,
+                },
+            }],
+            &[],
+        ),
     },
     Row {
         name: "dump",
-        forms: Forms::Unbuilt,
+        forms: Forms::Several(1, DUMPS, &[]),
     },
     Row {
         name: "undump",
-        forms: Forms::Unbuilt,
+        forms: Forms::One(Form {
+            maker: Maker::Undump,
+            kinds: &[Kind::NameWord],
+            tail: Tail::NoTail,
+        }),
     },
     Row {
         name: "run",

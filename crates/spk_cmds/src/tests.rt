@@ -82,8 +82,26 @@ fn command_text(alloc: Global, command: &Command) -> Result<String, AllocError> 
             fraction,
             region,
         } => format!(in alloc; "set {value:?} {fraction:?} {region:?}"),
+        Command::ReadSites { file } => format!(in alloc; "read_sites {}", file.as_str()),
         Command::Sweep { style } => format!(in alloc; "sweep {style:?}"),
         Command::Temperature { t } => format!(in alloc; "temperature {}", t.millionths),
+        Command::DiagEnergy => String::from_str(alloc, "diag energy"),
+        Command::Dump {
+            name,
+            style,
+            delta,
+            file,
+            fields,
+        } => {
+            format!(in alloc;
+                "dump {} {style:?} {} {} {:?}",
+                name.as_str(),
+                delta.millionths,
+                file.as_str(),
+                fields.as_slice()
+            )
+        }
+        Command::Undump { name } => format!(in alloc; "undump {}", name.as_str()),
         Command::Print { text } => format!(in alloc; "print {}", text.as_str()),
         Command::SetEcho { echo } => format!(in alloc; "echo {echo:?}"),
         _ => String::from_str(alloc, "another command"),
@@ -291,6 +309,72 @@ fn makes_regions(rt: HostRuntime) -> Result<(), Fail> {
     ] {
         let text = outcome_text(rt.alloc(), line)?;
         assert_eq!(rt; text.as_str(), wanted, "at {line}");
+    }
+    Ok(())
+}
+
+#[test]
+fn makes_dumps(rt: HostRuntime) -> Result<(), Fail> {
+    for (line, wanted) in [
+        (
+            "dump 007 text 001.50 d.txt",
+            "dump 007 Text 1500000 d.txt [Id, Site, X, Y, Z]",
+        ),
+        (
+            "dump 1 text 1000000000 f id site i1 x y z energy energy",
+            "dump 1 Text 1000000000000000 f [Id, Site, I1, X, Y, Z, Energy, Energy]",
+        ),
+        (
+            "dump 1 text 0.000001 f z z z z z z z z z z z z z z z i1",
+            "dump 1 Text 1 f [Z, Z, Z, Z, Z, Z, Z, Z, Z, Z, Z, Z, Z, Z, Z, I1]",
+        ),
+        (
+            "dump 1 text 1 f z z z z z z z z z z z z z z z z what",
+            "WrongCount ",
+        ),
+        ("dump s sites 2 f", "dump s Sites 2000000 f []"),
+        ("dump 1 sites 1 f id", "WrongCount "),
+        ("dump 1 xyz 1.0 f", "UnknownStyle xyz"),
+        ("dump 1", "WrongCount "),
+        ("dump 1 text", "WrongCount "),
+        ("dump a-b? text x f what", "BadName a-b?"),
+        ("dump 1 text x f what", "BadNumber x"),
+        ("dump 1 text 0 f id what who", "UnknownStyle what"),
+        ("dump 1 text 0 f", "OutOfRange 0"),
+        (
+            "dump 1 text 1000000000.000001 f",
+            "OutOfRange 1000000000.000001",
+        ),
+        ("undump 007", "undump 007"),
+        ("undump", "WrongCount "),
+        ("undump -", "BadName -"),
+    ] {
+        let text = outcome_text(rt.alloc(), line)?;
+        assert_eq!(rt; text.as_str(), wanted, "at {line}");
+    }
+    Ok(())
+}
+
+#[test]
+fn makes_diagnostics_and_files(rt: HostRuntime) -> Result<(), Fail> {
+    for (line, wanted) in [
+        ("diag_style energy", "diag energy"),
+        ("diag_style energy 1", "WrongCount "),
+        ("diag_style volume", "UnknownStyle volume"),
+        ("diag_style", "WrongCount "),
+        ("read_sites a/b-c?", "read_sites a/b-c?"),
+        ("read_sites", "WrongCount "),
+        ("write_restart f", "NotBuilt write_restart"),
+    ] {
+        let text = outcome_text(rt.alloc(), line)?;
+        assert_eq!(rt; text.as_str(), wanted, "at {line}");
+    }
+    for (length, outcome) in [(255, "read_sites"), (256, "BadName")] {
+        let file = "f".repeat(rt.alloc(), length)?;
+        let line = format!(in rt.alloc(); "read_sites {file}")?;
+        let wanted = format!(in rt.alloc(); "{outcome} {file}")?;
+        let text = outcome_text(rt.alloc(), line.as_str())?;
+        assert_eq!(rt; text.as_str(), wanted.as_str());
     }
     Ok(())
 }

@@ -58,7 +58,7 @@ fn after_keyword<'a>(pairs: &'a [Value], word: &str) -> Option<&'a Value>
 }
 
 /// The word that a value is, and an empty one where it is none.
-fn word_of(value: &Value) -> &str
+pub fn word_of(value: &Value) -> &str
     ensures { result.now ≡ word_by (Some value.now) }
 {
     match value {
