@@ -32,8 +32,9 @@ use Rattle.std.specs.List.{All, position, position_or_len}
 use Rattle.std.proofs.lemmas.List.Elements.{All-nil, All-cons}
 use Rattle.spk_script.proofs.Cuts.{place_missing}
 use Rattle.std.specs.Prelude.{Bool, IsTrue, true, not, ◌&&◌, is_some}
-use Rattle.spk_run.specs.Faults.{fault_stop, done_to, NoRead, LeavesDone, WritesAfterMemory}
-use Rattle.spk_run.specs.Output.{prints, prints_all}
+use Rattle.spk_run.specs.Faults.{fault_stop, verdict, done_to, trouble_of, NoRead, LeavesDone, Leaves, WritesAfterMemory}
+use Rattle.spk_report.specs.Output.{prints}
+use Rattle.spk_run.specs.Output.{prints_all}
 use Rattle.spk_sched.specs.Plans.{plan_fault}
 use Rattle.spk_sched.specs.Globals.{Kinetics, kinetics_of}
 use Rattle.spk_cmds.specs.declared.command.SolveStyle.{SolveStyle}
@@ -63,6 +64,22 @@ pub done_out_of_memory : {world : WorldState} {effect : Effect (Result SessionSt
     IsErrAnd result (λ y. y ≡ fault.Memory) → Wrote fault_stop world world effect (done_to state result)
 done_out_of_memory state (Ok _) is = absurd is
 done_out_of_memory state (Err stopped) is = out_of_memory (Err stopped) is
+
+-- a command that was stopped, and its session then
+pub stopped_command : {before now : WorldState} {effect : Effect (Result SessionState Cause)} (state : SessionState) (stopped : Fault) (result : Result (Result (Unit {0}) Cause) Fault) →
+    IsErrAnd result (λ y. y ≡ stopped) → Wrote fault_stop before now effect (Err stopped) → Wrote fault_stop before now effect (verdict state result)
+stopped_command state stopped result failed prefix = rw (is_error result _ failed) prefix
+
+leaves_by : (told : Option Outside) (effect : Effect (Result SessionState Cause)) (before now : SessionState) (stopped : Fault) → LeavesDone {A = Unit {0}} told effect before now (Err stopped) →
+    Leaves told effect before now (trouble_of (Err stopped))
+leaves_by told effect before now (fault.Read name) left = left
+leaves_by None effect before now (fault.Write target) left = tt
+leaves_by (Some outside) effect before now (fault.Write target) left = left
+leaves_by told effect before now fault.Memory left = tt
+
+pub stopped_leaves : (told : Option Outside) (effect : Effect (Result SessionState Cause)) (before now : SessionState) (stopped : Fault) (result : Result (Result (Unit {0}) Cause) Fault) →
+    IsErrAnd result (λ y. y ≡ stopped) → LeavesDone {A = Unit {0}} told effect before now (Err stopped) → Leaves told effect before now (trouble_of result)
+stopped_leaves told effect before now stopped result failed left = rw (is_error result _ failed) (leaves_by told effect before now stopped left)
 
 -- a write that failed is the fault of the whole
 pub write_failed : {A : Type 0} {before now : WorldState} {effect : Effect A} (target : Target) (result : Result A Fault) →
@@ -264,38 +281,38 @@ starts_for state run prepared is =
     let made = prepared_for state run prepared is in
     rw made.3 (ap (λ (s : RunSettings). s.start) made.4.plan)
 
--- commands that neither run nor print
-performs_other : (state : SessionState) (command : Command) → ((length : Dec) → command ≡ Run length → ⊥) → ((text : List ℕ) → command ≡ Print text → ⊥) →
+-- commands that neither run, nor print, nor read a file
+performs_other : (state : SessionState) (command : Command) → ((length : Dec) → command ≡ Run length → ⊥) → ((text : List ℕ) → command ≡ Print text → ⊥) → ((file : List ℕ) → command ≡ ReadSites file → ⊥) →
     performs state command ≡ answers (Ok (set_by state command))
 unfolding performs
-performs_other state (Seed seed) not_run not_print = refl
-performs_other state (App style) not_run not_print = refl
-performs_other state (Dimension d) not_run not_print = refl
-performs_other state (Lattice style scale) not_run not_print = refl
-performs_other state (Boundary faces) not_run not_print = refl
-performs_other state (Processors ranks) not_run not_print = refl
-performs_other state (Region name shape) not_run not_print = refl
-performs_other state (CreateBox region) not_run not_print = refl
-performs_other state CreateSites not_run not_print = refl
-performs_other state (Set value fraction region) not_run not_print = refl
-performs_other state (ReadSites file) not_run not_print = refl
-performs_other state (WriteRestart file) not_run not_print = refl
-performs_other state (ReadRestart file) not_run not_print = refl
-performs_other state (Sector is tstop nstop) not_run not_print = refl
-performs_other state (Solve style) not_run not_print = refl
-performs_other state (Sweep style) not_run not_print = refl
-performs_other state (Temperature t) not_run not_print = refl
-performs_other state (Stats delta) not_run not_print = refl
-performs_other state DiagEnergy not_run not_print = refl
-performs_other state (Dump name style delta file fields) not_run not_print = refl
-performs_other state (Undump name) not_run not_print = refl
-performs_other state (Run length) not_run not_print = absurd (not_run length refl)
-performs_other state (Print text) not_run not_print = absurd (not_print text refl)
-performs_other state (SetEcho style) not_run not_print = refl
+performs_other state (Seed seed) not_run not_print not_read = refl
+performs_other state (App style) not_run not_print not_read = refl
+performs_other state (Dimension d) not_run not_print not_read = refl
+performs_other state (Lattice style scale) not_run not_print not_read = refl
+performs_other state (Boundary faces) not_run not_print not_read = refl
+performs_other state (Processors ranks) not_run not_print not_read = refl
+performs_other state (Region name shape) not_run not_print not_read = refl
+performs_other state (CreateBox region) not_run not_print not_read = refl
+performs_other state CreateSites not_run not_print not_read = refl
+performs_other state (Set value fraction region) not_run not_print not_read = refl
+performs_other state (ReadSites file) not_run not_print not_read = absurd (not_read file refl)
+performs_other state (WriteRestart file) not_run not_print not_read = refl
+performs_other state (ReadRestart file) not_run not_print not_read = refl
+performs_other state (Sector is tstop nstop) not_run not_print not_read = refl
+performs_other state (Solve style) not_run not_print not_read = refl
+performs_other state (Sweep style) not_run not_print not_read = refl
+performs_other state (Temperature t) not_run not_print not_read = refl
+performs_other state (Stats delta) not_run not_print not_read = refl
+performs_other state DiagEnergy not_run not_print not_read = refl
+performs_other state (Dump name style delta file fields) not_run not_print not_read = refl
+performs_other state (Undump name) not_run not_print not_read = refl
+performs_other state (Run length) not_run not_print not_read = absurd (not_run length refl)
+performs_other state (Print text) not_run not_print not_read = absurd (not_print text refl)
+performs_other state (SetEcho style) not_run not_print not_read = refl
 
-pub set_done : {world : WorldState} (state next : SessionState) (command : Command) → ((length : Dec) → command ≡ Run length → ⊥) → ((text : List ℕ) → command ≡ Print text → ⊥) →
+pub set_done : {world : WorldState} (state next : SessionState) (command : Command) → ((length : Dec) → command ≡ Run length → ⊥) → ((text : List ℕ) → command ≡ Print text → ⊥) → ((file : List ℕ) → command ≡ ReadSites file → ⊥) →
     next ≡ set_by state command → Wrote fault_stop world world (performs state command) (Ok (Ok next))
-set_done state next command not_run not_print is = rw (performs_other state command not_run not_print, is) wrote_answer
+set_done state next command not_run not_print not_read is = rw (performs_other state command not_run not_print not_read, is) wrote_answer
 
 run_by : (state : SessionState) (length : Dec) → performs state (Run length) ≡ performs_run state (ticks_of length)
 unfolding performs

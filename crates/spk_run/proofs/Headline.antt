@@ -10,7 +10,7 @@ use Rattle.spk_world.specs.Effects.{Effect, ◌>>=◌, answers, writes, Stop, Wr
 use Rattle.spk_world.proofs.EffectLaws.{wrote_then, wrote_failed, wrote_answer}
 use Rattle.spk_cmds.specs.declared.options.Options.{Options}
 use Rattle.spk_run.specs.declared.cause.Cause.{Cause}
-use Rattle.spk_run.specs.declared.cause.Cause.TheVariants.{ScriptTooLong, FileMissing}
+use Rattle.spk_run.specs.declared.cause.Cause.TheVariants.{ScriptTooLong, FileMissing, FileTooLong}
 use Rattle.spk_run.specs.declared.answer.Target.{Target}
 use Rattle.spk_run.specs.declared.answer.Target.TheVariants as target
 use Rattle.spk_run.specs.declared.answer.Ending.{Ending}
@@ -144,6 +144,7 @@ write_complete plain told before now (target.File name) cause none = absurd (non
 refused_complete : (before now : Faults) (cause : Cause) → FileRefusalRose before now cause → NoneRose before now → IsNoFileCause cause
 refused_complete before now ScriptTooLong rose none = absurd (none.loads rose)
 refused_complete before now (FileMissing name) rose none = absurd (none.loads rose)
+refused_complete before now (FileTooLong name) rose none = absurd (none.loads rose)
 refused_complete before now cause rose none = tt
 
 told_complete : (outside : Outside) (now : Option Outside) (plain : Effect Answer) (before later : Faults) (result : Answer) →

@@ -10,7 +10,7 @@ pub mod RankTurns
 pub mod Ranks
 pub mod RunSteps
 pub mod Sessions
-pub mod StatisticsTexts
+pub mod SiteFileReads
 pub mod StreamLaws
 pub mod Tellers
 pub mod WholeRanks

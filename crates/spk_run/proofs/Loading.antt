@@ -29,7 +29,7 @@ use Rattle.spk_run.specs.Faults.{fault_stop}
 use Rattle.spk_run.specs.Plain.{obeys_file, obeys_input}
 use Rattle.spk_run.proofs.CommandSteps.{fault_stop-memory}
 
-read_stop : (name : List ℕ) → fault_stop (Read name) ≡ LoadFailed name
+pub read_stop : (name : List ℕ) → fault_stop (Read name) ≡ LoadFailed name
 unfolding fault_stop
 read_stop name = refl
 

@@ -33,7 +33,7 @@ use Rattle.spk_world.specs.Effects.{Effect, ◌>>=◌, answers, Stop, Stands, Wr
 use Rattle.spk_world.proofs.EffectLaws.{wrote_then, wrote_failed, wrote_answer, wrote_nothing, wrote_mapped, rose_later, later_later, later_same}
 use Rattle.spk_world.proofs.LoadLaws.{load_later}
 use Rattle.spk_run.specs.declared.cause.Cause.{Cause}
-use Rattle.spk_run.specs.declared.cause.Cause.TheVariants.{ScriptTooLong, FileMissing}
+use Rattle.spk_run.specs.declared.cause.Cause.TheVariants.{ScriptTooLong, FileMissing, FileTooLong}
 use Rattle.spk_run.specs.declared.answer.Ending.{Ending}
 use Rattle.spk_run.specs.declared.answer.Ending.TheVariants.{Done, Refused}
 use Rattle.spk_run.specs.declared.script.Progress.{Progress}
@@ -60,6 +60,7 @@ out_of_memory = wrote_nothing {result = Err Memory} Memory refl fault_stop-memor
 -- a cause in the state is none in a file
 pub of_state_rose : (before now : Faults) (cause : Cause) → IsOfState cause → FileRefusalRose before now cause
 of_state_rose before now (FileMissing name) is = absurd is
+of_state_rose before now (FileTooLong name) is = absurd is
 of_state_rose before now ScriptTooLong is = absurd is
 of_state_rose before now cause is = tt
 
@@ -69,11 +70,13 @@ rose_earlier a b c le rose = omega arith
 
 pub refusal_later : (before now later : Faults) (cause : Cause) → Later now later → FileRefusalRose before now cause → FileRefusalRose before later cause
 refusal_later before now later (FileMissing name) after rose = rose_later before.loads now.loads later.loads rose after.loads
+refusal_later before now later (FileTooLong name) after rose = rose_later before.loads now.loads later.loads rose after.loads
 refusal_later before now later ScriptTooLong after rose = rose_later before.loads now.loads later.loads rose after.loads
 refusal_later before now later cause after rose = tt
 
 refusal_earlier : (before now later : Faults) (cause : Cause) → Later before now → FileRefusalRose now later cause → FileRefusalRose before later cause
 refusal_earlier before now later (FileMissing name) first rose = rose_earlier before.loads now.loads later.loads first.loads rose
+refusal_earlier before now later (FileTooLong name) first rose = rose_earlier before.loads now.loads later.loads first.loads rose
 refusal_earlier before now later ScriptTooLong first rose = rose_earlier before.loads now.loads later.loads first.loads rose
 refusal_earlier before now later cause first rose = tt
 

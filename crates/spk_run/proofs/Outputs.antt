@@ -9,9 +9,13 @@ use Rattle.spk_world.specs.Effects.{◌>>◌, answers, writes, WriteFailed, Wrot
 use Rattle.spk_world.specs.declared.world.Failed.{Failed}
 use Rattle.spk_world.proofs.EffectLaws.{wrote_answer}
 use Rattle.spk_world.proofs.Writes.{failed_says, wrote_adds, failed_adds, wrote_no_adds, wrote_starts, failed_starts}
+use Rattle.spk_report.specs.declared.write_trouble.WriteTrouble.{WriteTrouble}
+use Rattle.spk_report.specs.declared.write_trouble.WriteTrouble.TheVariants as trouble_of
+use Rattle.spk_report.specs.Output.{IsTroubleOf, log_name, trouble_stop}
 use Rattle.spk_run.specs.declared.answer.Target.TheVariants.{Screen}
 use Rattle.spk_run.specs.Endings.{target_stop}
-use Rattle.spk_run.specs.Output.{log_target, logs, prints, prints_all, starts_log}
+use Rattle.spk_report.specs.Output.{logs, prints}
+use Rattle.spk_run.specs.Output.{log_target, prints_all, starts_log}
 
 pub target_stop-screen : target_stop Screen ≡ WriteFailed ScreenPlace
 unfolding target_stop
@@ -20,6 +24,19 @@ target_stop-screen = refl
 pub target_stop-log : (log : Option (List ℕ)) (name : List ℕ) → log ≡ Some name → target_stop (log_target log) ≡ WriteFailed (FilePlace name)
 unfolding target_stop
 target_stop-log log name is = rw is refl
+
+-- a line of statistics
+pub screen_trouble : (name : List ℕ) (trouble : WriteTrouble) → trouble ≡ trouble_of.Screen → target_stop Screen ≡ trouble_stop name trouble
+unfolding target_stop trouble_stop
+screen_trouble name trouble is = rw is refl
+
+log_by : (log : Option (List ℕ)) → IsTroubleOf log trouble_of.File → target_stop (log_target log) ≡ trouble_stop (log_name log) trouble_of.File
+unfolding target_stop trouble_stop
+log_by None none = absurd none
+log_by (Some name) some = refl
+
+pub log_trouble : (log : Option (List ℕ)) (trouble : WriteTrouble) → trouble ≡ trouble_of.File → IsTroubleOf log trouble → target_stop (log_target log) ≡ trouble_stop (log_name log) trouble
+log_trouble log trouble is of_log = rw is (log_by log (rw is at of_log))
 
 -- the screen
 pub screen_failed : (before now : WorldState) (text : List ℕ) (fault : Failed) → 0 < length text →

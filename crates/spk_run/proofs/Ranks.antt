@@ -1,5 +1,5 @@
 -- A run on one rank: its state is that of all ranks.
-use Rattle.std.proofs.Common.{◌≡◌, ℕ, ◌+◌, ◌*◌, ◌%◌, ◌<◌, IsTrue, List, [], ◌∷◌, length, get_or, set, refl, sym, ap, ◌∙◌, arith, add-one, zero-add, get_or-set_same}
+use Rattle.std.proofs.Common.{None, ◌≡◌, ℕ, ◌+◌, ◌*◌, ◌%◌, ◌<◌, IsTrue, List, [], ◌∷◌, length, get_or, set, refl, sym, ap, ◌∙◌, arith, add-one, zero-add, get_or-set_same}
 use Rattle.std.proofs.Math.Nat.{mod-one, mul-one}
 use Rattle.std.proofs.lemmas.List.{set-get_or}
 use Rattle.spk_lattice.specs.Layout.{Layout}
@@ -20,7 +20,7 @@ use Rattle.spk_sched.specs.Globals.{GlobalState, Kinetics, global_state, sector_
 use Rattle.spk_sched.proofs.OneRank.{one_rank_box}
 use Rattle.spk_run.specs.Ranks.{sector_at_rank}
 use Rattle.spk_run.specs.Running.{HasAllCells}
-use Rattle.spk_run.specs.Statistics.{statistics_text}
+use Rattle.spk_report.specs.Statistics.{statistics_text}
 use Rattle.spk_run.specs.Runs.{job, one_rank, domain_at, domain_after, mark_text, sweeps_after}
 
 -- the state of all ranks where there is one
@@ -73,6 +73,7 @@ pub mark_text_is : (kinetics : Kinetics) (settings : RunSettings) (domain : Doma
       time = domain.time + elapsed settings done;
       counts = counts_sum domain.counts state.counts;
       sweeps = sweeps_after settings.sweep domain.sweeps (elapsed settings done);
+      energy = None;
     })
 unfolding domain_at
 mark_text_is kinetics settings domain done state one is =

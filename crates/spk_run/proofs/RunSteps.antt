@@ -14,8 +14,9 @@ use Rattle.spk_num.specs.declared.sweep.Sweep.{Sweep}
 use Rattle.spk_patch.specs.Patches.{IsPatch}
 use Rattle.spk_sched.specs.Plans.{IsRun, elapsed, is_whole, sector_at, window, cycles, steps, is_mark, marks_from}
 use Rattle.spk_sched.specs.Globals.{Kinetics}
-use Rattle.spk_run.specs.Statistics.{header_text, statistics_text}
-use Rattle.spk_run.specs.Output.{prints, prints_all}
+use Rattle.spk_report.specs.Statistics.{statistics_text}
+use Rattle.spk_report.specs.Output.{prints}
+use Rattle.spk_run.specs.Output.{header_text, prints_all}
 use Rattle.spk_run.specs.Endings.{target_stop}
 use Rattle.spk_run.specs.Runs.{mark_text, run_texts, domain_after, sweeps_after}
 use Rattle.spk_run.specs.Solvers.{rule_of, style_of}
@@ -62,7 +63,7 @@ has_turned kinetics settings domain done ticks old new one window_is patch has k
 -- the text of a mark by what the run holds
 pub told_text : (kinetics : Kinetics) (settings : RunSettings) (domain : Domain) (done : ℕ) (running : Running) → settings.sectors ≡ 1 →
     HasDone kinetics settings domain done running →
-    mark_text kinetics settings domain done ≡ statistics_text (record { time = running.time; counts = counts_sum running.counts running.rank.counts; sweeps = running.sweeps })
+    mark_text kinetics settings domain done ≡ statistics_text (record { time = running.time; counts = counts_sum running.counts running.rank.counts; sweeps = running.sweeps; energy = None })
 told_text kinetics settings domain done running one has =
     mark_text_is kinetics settings domain done (state_of running.rank) one has.state
     ∙ rw (has.time, has.keeps.counts, has.sweeps) refl
@@ -90,8 +91,8 @@ finished_box kinetics settings domain running one is has =
     ∙ rw (has.keeps.lattice, time, has.keeps.streams, has.keeps.counts, sweeps) refl
 
 -- what was told changes nothing of the sites
-keeps_with : {domain : Domain} (running : Running) (teller : Teller) → KeepsBox domain running → KeepsBox domain (record running { teller = teller })
-keeps_with running teller keeps = record {
+keeps_with : {domain : Domain} (running : Running) (teller : Teller) → teller.report ≡ running.teller.report → KeepsBox domain running → KeepsBox domain (record running { teller = teller })
+keeps_with running teller same keeps = record {
   lattice = keeps.lattice;
   streams = keeps.streams;
   counts = keeps.counts;
@@ -99,13 +100,13 @@ keeps_with running teller keeps = record {
   cells = keeps.cells;
   on = keeps.on;
   some_stream = keeps.some_stream;
-  line = keeps.line;
+  report = same ∙ keeps.report;
 }
 
-pub has_done_telling : (kinetics : Kinetics) (settings : RunSettings) (domain : Domain) (done : ℕ) (running : Running) (teller : Teller) → HasDone kinetics settings domain done running →
+pub has_done_telling : (kinetics : Kinetics) (settings : RunSettings) (domain : Domain) (done : ℕ) (running : Running) (teller : Teller) → teller.report ≡ running.teller.report → HasDone kinetics settings domain done running →
     HasDone kinetics settings domain done (record running { teller = teller })
-has_done_telling kinetics settings domain done running teller has = record {
-  keeps = keeps_with running teller has.keeps;
+has_done_telling kinetics settings domain done running teller same has = record {
+  keeps = keeps_with running teller same has.keeps;
   time = has.time;
   sweeps = has.sweeps;
   rule = has.rule;

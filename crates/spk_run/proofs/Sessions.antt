@@ -13,7 +13,7 @@ use Rattle.spk_run.specs.declared.answer.Target.TheVariants as target
 use Rattle.spk_run.specs.declared.answer.Ending.{Ending}
 use Rattle.spk_run.specs.declared.answer.Ending.TheVariants as ending
 use Rattle.spk_run.specs.declared.cause.Cause.{Cause}
-use Rattle.spk_run.specs.declared.cause.Cause.TheVariants.{ScriptTooLong, FileMissing}
+use Rattle.spk_run.specs.declared.cause.Cause.TheVariants.{ScriptTooLong, FileMissing, FileTooLong}
 use Rattle.spk_run.specs.declared.fault.Fault.{Fault}
 use Rattle.spk_run.specs.declared.fault.Fault.TheVariants as fault
 use Rattle.spk_run.specs.declared.fault.Trouble.{Trouble}
@@ -21,8 +21,8 @@ use Rattle.spk_run.specs.declared.fault.Trouble.TheVariants as trouble
 use Rattle.spk_run.specs.declared.state.SessionState.{SessionState}
 use Rattle.spk_run.specs.Causes.{FileRefusalRose}
 use Rattle.spk_run.specs.Endings.{target_stop, place_of_target, refusal_text, refuses, IsNoFileCause, NoneRose}
-use Rattle.spk_run.specs.Faults.{fault_stop, trouble_stop, verdict, obeyed_to, trouble_of, IfRefused, OnRefusal, LeavesDone, Leaves, IsCompleteCommand}
-use Rattle.spk_run.specs.Output.{prints}
+use Rattle.spk_run.specs.Faults.{fault_stop, trouble_stop, verdict, obeyed_to, trouble_of, IfRefused, OnRefusal, Leaves, IsCompleteCommand}
+use Rattle.spk_report.specs.Output.{prints}
 use Rattle.spk_run.specs.Commands.{cause, performs, obeys}
 use Rattle.spk_run.proofs.CommandSteps.{fault_stop-memory, fault_stop-write}
 
@@ -58,26 +58,14 @@ pub command_out_of_memory : {world : WorldState} {effect : Effect (Result Sessio
 command_out_of_memory state (Ok done) is = absurd is
 command_out_of_memory state (Err stopped) is = wrote_nothing {result = Err stopped} _ is fault_stop-memory
 
-pub performed_whole : (before now : WorldState) (state next : SessionState) (command : Command) → cause state command ≡ None →
-    Wrote fault_stop before now (performs state command) (Ok (Ok next)) → Wrote fault_stop before now (obeys state command) (Ok (Ok next))
-performed_whole before now state next command none done = rw (obeys_free state command none) done
+pub performed : {before now : WorldState} (state : SessionState) (command : Command) (result : Result (Result SessionState Cause) Fault) → cause state command ≡ None →
+    Wrote fault_stop before now (performs state command) result → Wrote fault_stop before now (obeys state command) result
+performed state command result none done = rw (obeys_free state command none) done
 
-pub performed_not : (before now : WorldState) (state next : SessionState) (command : Command) (stopped : Fault) (result : Result (Result (Unit {0}) Cause) Fault) → cause state command ≡ None →
-    IsErrAnd result (λ y. y ≡ stopped) → Wrote fault_stop before now (performs state command) (Err stopped) → Wrote fault_stop before now (obeys state command) (verdict next result)
-performed_not before now state next command stopped result none failed prefix = rw (is_error result _ failed, obeys_free state command none) prefix
-
-leaves_by : (told : Option Outside) (effect : Effect (Result SessionState Cause)) (before now : SessionState) (stopped : Fault) → LeavesDone {A = Unit {0}} told effect before now (Err stopped) →
-    Leaves told effect before now (trouble_of (Err stopped))
-leaves_by told effect before now (fault.Read name) left = left
-leaves_by None effect before now (fault.Write target) left = tt
-leaves_by (Some outside) effect before now (fault.Write target) left = left
-leaves_by told effect before now fault.Memory left = tt
-
--- what a session is after a command that was stopped
-pub performed_leaves : (told : Option Outside) (before now : SessionState) (command : Command) (stopped : Fault) (result : Result (Result (Unit {0}) Cause) Fault) → cause before command ≡ None →
-    IsErrAnd result (λ y. y ≡ stopped) → LeavesDone {A = Unit {0}} told (performs before command) before now (Err stopped) → Leaves told (obeys before command) before now (trouble_of result)
-performed_leaves told before now command stopped result none failed left =
-    rw (is_error result _ failed, obeys_free before command none) (leaves_by told (performs before command) before now stopped left)
+-- what a session is after a command that was refused for a file, or stopped
+pub performed_leaves : (told : Option Outside) (before now : SessionState) (command : Command) (result : Result (Unit {0}) Trouble) → cause before command ≡ None →
+    Leaves told (performs before command) before now result → Leaves told (obeys before command) before now result
+performed_leaves told before now command result none left = rw (obeys_free before command none) left
 
 -- the same under the names of the public call
 stops_read : (name : List ℕ) → trouble_stop (trouble.ReadFault name) ≡ fault_stop (fault.Read name)
@@ -102,6 +90,7 @@ obeyed_publicly before now effect state (Err fault.Memory) prefix = wrote_fault 
 
 pub no_file_cause : (before now : Faults) (refused : Cause) → NoneRose before now → FileRefusalRose before now refused → IsNoFileCause refused
 no_file_cause before now (FileMissing name) none rose = absurd (none.loads rose)
+no_file_cause before now (FileTooLong name) none rose = absurd (none.loads rose)
 no_file_cause before now ScriptTooLong none rose = absurd (none.loads rose)
 no_file_cause before now refused none rose = tt
 

@@ -1,5 +1,5 @@
 -- The application of a session: its style, on a lattice and at a temperature.
-use Rattle.std.specs.Prelude.{ℕ, Bool, true, false}
+use Rattle.std.specs.Prelude.{◌↔◌, ℕ, Bool, IsTrue, true, false}
 use Rattle.spk_num.specs.declared.style.Style.{Style}
 use Rattle.spk_app.specs.Applications.{Application}
 use Rattle.spk_potts.specs.Ising.{ising}
@@ -7,6 +7,7 @@ use Rattle.spk_potts.specs.Potts.{potts}
 use Rattle.spk_diffusion.specs.Diffusion.{diffusion}
 use Rattle.spk_cmds.specs.declared.command.AppStyle.{AppStyle}
 use Rattle.spk_cmds.specs.declared.command.AppStyle.TheVariants as style
+use Rattle.spk_cmds.specs.WellFormed.{IsFromTo}
 use Rattle.spk_run.specs.declared.application.AnyApplication.{AnyApplication}
 use Rattle.spk_run.specs.declared.application.AnyApplication.TheVariants as any
 
@@ -24,6 +25,17 @@ abbrev pub has_sweep : AppStyle → Bool
 has_sweep style.DiffusionOff = false
 has_sweep style.DiffusionLinear = false
 has_sweep other = true
+
+-- the greatest value of a style; the least is 1
+abbrev pub largest_value : AppStyle → ℕ
+largest_value (style.Potts q) = q
+largest_value (style.PottsNeighonly q) = q
+largest_value other = 2
+
+-- a site may have exactly the values from 1 to this one, whatever the lattice and the temperature are
+abbrev pub HasLargestValue : AppStyle → ℕ → Type 0
+HasLargestValue asked largest =
+    (lattice : Style) (temperature value : ℕ) → IsTrue ((application_of asked lattice temperature).is_valid value) ↔ IsFromTo 1 largest value
 
 -- the rules that an application follows
 abbrev pub rules_of : AnyApplication → Application

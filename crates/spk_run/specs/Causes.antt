@@ -8,12 +8,14 @@ use Rattle.spk_lattice.specs.declared.regions.fault.RegionFault.{RegionFault}
 use Rattle.spk_lattice.specs.declared.regions.fault.RegionFault.TheVariants as region
 use Rattle.spk_sched.specs.declared.plan.PlanFault.{PlanFault}
 use Rattle.spk_sched.specs.declared.plan.PlanFault.TheVariants as plan
+use Rattle.spk_files.specs.declared.site_fault.SiteFault.{SiteFault}
+use Rattle.spk_files.specs.declared.site_fault.SiteFault.TheVariants as site_file
 use Rattle.spk_script.specs.declared.fault.LineFault.{LineFault}
 use Rattle.spk_script.specs.declared.fault.LineFault.TheVariants as fault
 use Rattle.spk_cmds.specs.declared.command.CommandFault.{CommandFault}
 use Rattle.spk_cmds.specs.declared.command.CommandFault.TheVariants as command
 use Rattle.spk_run.specs.declared.cause.Cause.{Cause}
-use Rattle.spk_run.specs.declared.cause.Cause.TheVariants.{ScriptTooLong, NotAscii, OpenQuote, TooManyLines, LineTooLong, TooManyCommands, UnknownVariable, WrongWords, BadName, BadFormula, Inexact, NumberTooLarge, LoopValue, NotStepped, OtherFile, NoSuchLabel, BadStyle, UnknownCommand, UnknownStyle, WrongCount, BadNumber, OutOfRange, NotBuilt, BadCommandName, NoSeed, NoApp, NoLattice, NoBox, NoSites, AlreadyMade, WrongDimension, RegionTwice, NoSuchRegion, RegionEmpty, TooManyParts, TooManyRegions, BoxNotBlock, BoxNotWhole, TooSmall, TooManySites, NoSolver, BothSolverAndSweep, NoSweepForApp, BadValueForApp, NotWhole, RunTooLong, FileMissing}
+use Rattle.spk_run.specs.declared.cause.Cause.TheVariants.{ScriptTooLong, NotAscii, OpenQuote, TooManyLines, LineTooLong, TooManyCommands, UnknownVariable, WrongWords, BadName, BadFormula, Inexact, NumberTooLarge, LoopValue, NotStepped, OtherFile, NoSuchLabel, BadStyle, UnknownCommand, UnknownStyle, WrongCount, BadNumber, OutOfRange, NotBuilt, BadCommandName, NoSeed, NoApp, NoLattice, NoBox, NoSites, AlreadyMade, WrongDimension, RegionTwice, NoSuchRegion, RegionEmpty, TooManyParts, TooManyRegions, BoxNotBlock, BoxNotWhole, TooSmall, TooManySites, NoSolver, BothSolverAndSweep, NoSweepForApp, BadValueForApp, NotWhole, RunTooLong, DumpTwice, NoSuchDump, TooManyDumps, FileMissing, FileTooLong, NoHeader, SitesCount, BadLine, BadId, TwiceId, MissingId, BadValue, OtherSection}
 
 -- each cause has a number and a text
 abbrev pub cause_number : Cause → ℕ
@@ -63,7 +65,19 @@ cause_number NoSweepForApp = 321
 cause_number (BadValueForApp site) = 324
 cause_number NotWhole = 325
 cause_number RunTooLong = 326
+cause_number (DumpTwice name) = 327
+cause_number (NoSuchDump name) = 328
+cause_number TooManyDumps = 329
 cause_number (FileMissing name) = 401
+cause_number (FileTooLong name) = 402
+cause_number NoHeader = 411
+cause_number (SitesCount count) = 412
+cause_number (BadLine line) = 413
+cause_number (BadId line) = 414
+cause_number (TwiceId line) = 415
+cause_number (MissingId id) = 416
+cause_number (BadValue line) = 417
+cause_number (OtherSection line) = 418
 
 -- dimensions are x, y and z
 abbrev pub dimension_text : ℕ → List ℕ
@@ -118,7 +132,19 @@ cause_text NoSweepForApp = codes "application has no sweep"
 cause_text (BadValueForApp site) = codes "bad value at site " ++ decimal site
 cause_text NotWhole = codes "not a whole number of sweeps"
 cause_text RunTooLong = codes "run too long"
+cause_text (DumpTwice name) = codes "dump " ++ (name ++ codes " is there")
+cause_text (NoSuchDump name) = codes "no dump " ++ name
+cause_text TooManyDumps = codes "more than 32 dumps"
 cause_text (FileMissing name) = codes "no file " ++ name
+cause_text (FileTooLong name) = codes "file " ++ (name ++ codes " too long")
+cause_text NoHeader = codes "site file has no header"
+cause_text (SitesCount count) = codes "site file has " ++ (decimal count ++ codes " sites")
+cause_text (BadLine line) = codes "bad line " ++ decimal line
+cause_text (BadId line) = codes "bad id in line " ++ decimal line
+cause_text (TwiceId line) = codes "id twice in line " ++ decimal line
+cause_text (MissingId id) = codes "no id " ++ decimal id
+cause_text (BadValue line) = codes "bad value in line " ++ decimal line
+cause_text (OtherSection line) = codes "other section in line " ++ decimal line
 
 -- the cause that a fault of a line is; out of memory is no fault of the line
 abbrev pub line_cause : LineFault → Option Cause
@@ -158,6 +184,18 @@ plan_cause plan.NotWhole = Some NotWhole
 plan_cause plan.RunTooLong = Some RunTooLong
 plan_cause plan.Memory = None
 
+-- the same of a fault of a site file
+abbrev pub site_file_cause : SiteFault → Option Cause
+site_file_cause site_file.NoHeader = Some NoHeader
+site_file_cause (site_file.SitesCount count) = Some (SitesCount count)
+site_file_cause (site_file.BadLine line) = Some (BadLine line)
+site_file_cause (site_file.BadId line) = Some (BadId line)
+site_file_cause (site_file.TwiceId line) = Some (TwiceId line)
+site_file_cause (site_file.MissingId id) = Some (MissingId id)
+site_file_cause (site_file.BadValue line) = Some (BadValue line)
+site_file_cause (site_file.OtherSection line) = Some (OtherSection line)
+site_file_cause site_file.Memory = None
+
 -- the same of a fault of a region with this name; out of memory is none
 abbrev pub shape_cause : List ℕ → RegionFault → Option Cause
 shape_cause name region.Twice = Some (RegionTwice name)
@@ -171,14 +209,36 @@ shape_cause name region.Memory = None
 abbrev pub IsOfFile : Cause → Type 0
 IsOfFile cause = 401 ≤ cause_number cause
 
+-- a cause that lies in what a file has in it
+abbrev pub IsOfContent : Cause → Type 0
+IsOfContent NoHeader = Unit {0}
+IsOfContent (SitesCount count) = Unit {0}
+IsOfContent (BadLine line) = Unit {0}
+IsOfContent (BadId line) = Unit {0}
+IsOfContent (TwiceId line) = Unit {0}
+IsOfContent (MissingId id) = Unit {0}
+IsOfContent (BadValue line) = Unit {0}
+IsOfContent (OtherSection line) = Unit {0}
+IsOfContent cause = ⊥
+
 -- a cause that lies in what was given and made before, and in no file
 abbrev pub IsOfState : Cause → Type 0
 IsOfState (FileMissing name) = ⊥
+IsOfState (FileTooLong name) = ⊥
 IsOfState ScriptTooLong = ⊥
+IsOfState NoHeader = ⊥
+IsOfState (SitesCount count) = ⊥
+IsOfState (BadLine line) = ⊥
+IsOfState (BadId line) = ⊥
+IsOfState (TwiceId line) = ⊥
+IsOfState (MissingId id) = ⊥
+IsOfState (BadValue line) = ⊥
+IsOfState (OtherSection line) = ⊥
 IsOfState cause = Unit {0}
 
 -- Over a world that tells nothing, a file is missing or too long only where the count of loads rose.
 abbrev pub FileRefusalRose : Faults → Faults → Cause → Type 0
 FileRefusalRose before now (FileMissing name) = Rose before.loads now.loads
+FileRefusalRose before now (FileTooLong name) = Rose before.loads now.loads
 FileRefusalRose before now ScriptTooLong = Rose before.loads now.loads
 FileRefusalRose before now cause = Unit {0}

@@ -16,6 +16,7 @@ use Rattle.spk_run.specs.Commands.Region.{region_cause, with_region}
 use Rattle.spk_run.specs.Commands.CreateBox.{box_cause, box_of, with_box}
 use Rattle.spk_run.specs.Commands.CreateSites.{sites_cause, with_sites}
 use Rattle.spk_run.specs.Commands.Set.{set_cause, with_set}
+use Rattle.spk_run.specs.Commands.ReadSites.{read_cause, performs_read_sites}
 use Rattle.spk_run.specs.Commands.Run.{run_cause, performs_run}
 use Rattle.spk_run.specs.Commands.Print.{performs_print}
 pub mod CreateBox
@@ -24,6 +25,7 @@ pub mod Dimension
 pub mod Lattice
 pub mod NotBuilt
 pub mod Print
+pub mod ReadSites
 pub mod Region
 pub mod Run
 pub mod Seed
@@ -39,6 +41,7 @@ state_cause state (command.Region name shape) = region_cause state name shape
 state_cause state (command.CreateBox region) = box_cause state region
 state_cause state command.CreateSites = sites_cause state
 state_cause state (command.Set value fraction region) = set_cause state region
+state_cause state (command.ReadSites file) = read_cause state
 state_cause state (command.Run length) = run_cause state (ticks_of length)
 state_cause state other = None
 
@@ -65,6 +68,7 @@ set_by state other = state
 
 -- what a command does that has no cause in the state: it leaves a session, or is refused for a file that it loads
 unfoldable pub performs : SessionState → Command → Effect (Result SessionState Cause)
+performs state (command.ReadSites file) = performs_read_sites state file
 performs state (command.Run length) = performs_run state (ticks_of length)
 performs state (command.Print text) = performs_print state text
 performs state other = answers (Ok (set_by state other))

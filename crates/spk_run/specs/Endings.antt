@@ -7,9 +7,9 @@ use Rattle.spk_world.specs.Effects.{Outcome, Effect, ◌>>◌, answers, Stop, Lo
 use Rattle.spk_world.specs.Effects.{OutOfMemory as WorldOutOfMemory}
 use Rattle.spk_cmds.specs.declared.options.Options.{Options}
 use Rattle.spk_run.specs.Causes.{cause_number, cause_text, FileRefusalRose}
-use Rattle.spk_run.specs.Output.{prints}
+use Rattle.spk_report.specs.Output.{prints}
 use Rattle.spk_run.specs.declared.cause.Cause.{Cause}
-use Rattle.spk_run.specs.declared.cause.Cause.TheVariants.{ScriptTooLong, FileMissing}
+use Rattle.spk_run.specs.declared.cause.Cause.TheVariants.{ScriptTooLong, FileMissing, FileTooLong}
 use Rattle.spk_run.specs.declared.answer.Target.{Target}
 use Rattle.spk_run.specs.declared.answer.Target.TheVariants as target
 use Rattle.spk_run.specs.declared.answer.Ending.{Ending}
@@ -109,6 +109,7 @@ IsPlainAnswer plain answer = answer ≡ plain
 
 abbrev pub IsNoFileCause : Cause → Type 0
 IsNoFileCause (FileMissing name) = ⊥
+IsNoFileCause (FileTooLong name) = ⊥
 IsNoFileCause ScriptTooLong = ⊥
 IsNoFileCause cause = Unit {0}
 

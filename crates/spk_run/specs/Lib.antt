@@ -14,6 +14,5 @@ pub mod Runs
 pub mod Scripts
 pub mod Solvers
 pub mod States
-pub mod Statistics
 pub mod Streams
 pub mod Telling

@@ -1,7 +1,8 @@
 -- What goes to the screen and to the log, and in which order.
-use Rattle.std.specs.Prelude.{ℕ, List, [], ◌∷◌, Option, Some, None}
+use Rattle.std.specs.Prelude.{ℕ, List, [], ◌∷◌, Option, Some, None, codes}
 use Rattle.spk_world.specs.Outside.{says, adds, starts}
 use Rattle.spk_world.specs.Effects.{Effect, ◌>>◌, answers, writes}
+use Rattle.spk_report.specs.Output.{logs, prints}
 use Rattle.spk_cmds.specs.declared.options.Echo.{Echo}
 use Rattle.spk_cmds.specs.declared.options.Echo.TheVariants as echo
 use Rattle.spk_run.specs.declared.answer.Target.{Target}
@@ -12,14 +13,9 @@ abbrev pub log_target : Option (List ℕ) → Target
 log_target None = target.Screen
 log_target (Some name) = target.File name
 
--- a text for the log, where there is one
-abbrev pub logs : Option (List ℕ) → List ℕ → Effect (Unit {0})
-logs None text = answers tt
-logs (Some log) text = writes (adds log text)
-
--- a text for the screen, and then for the log
-unfoldable pub prints : Option (List ℕ) → List ℕ → Effect (Unit {0})
-prints log text = writes (says text) >> logs log text
+-- the line above a run's statistics
+abbrev pub header_text : List ℕ
+header_text = codes "Time Naccept Nreject Nsweeps\n"
 
 abbrev pub prints_then : Option (List ℕ) → List ℕ → Effect (Unit {0}) → Effect (Unit {0})
 prints_then log text rest = prints log text >> rest

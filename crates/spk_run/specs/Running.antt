@@ -1,5 +1,5 @@
 -- A run after so many of its steps: the sites are in the state of the plain simulator, and the texts of the marks so far are told.
-use Rattle.std.specs.Prelude.{◌≡◌, ℕ, ◌+◌, ◌<◌, ◌≤◌, IsTrue, true, List, [], ◌∷◌, map, length, slice_set, vec_capacity, Option, None, All}
+use Rattle.std.specs.Prelude.{◌≡◌, ℕ, ◌+◌, ◌<◌, ◌≤◌, IsTrue, true, List, [], ◌∷◌, map, length, slice_set, Option, None, All}
 use Rattle.spk_num.specs.declared.sweep.Sweep.{Sweep}
 use Rattle.spk_lattice.specs.Layout.{Layout, IsLattice, sites_of}
 use Rattle.spk_lattice.specs.Boxes.{cells_of, whole_box}
@@ -25,9 +25,9 @@ pub record HasAllCells (lattice : Layout) (patch : PatchSites) : Type 0 where
   pub halo : patch.halo ≡ 0
   pub wrapped : patch.wrapped ≡ true
 
--- there is room for a line, for the values of the sites of a box, and for their propensities where there is no sweep
+-- there is room for the values of the sites of a box, for their texts, and for their propensities where there is no sweep
 pub record HasRoomFor (domain : Domain) (sweep : Option Sweep) (room : RunRoom) : Type 0 where
-  pub line : 128 ≤ vec_capacity room.line
+  pub report : room.report ≡ domain.lattice
   pub patch : HasAllCells domain.lattice room.patch
   pub solver : sweep ≡ None → sites_of domain.lattice ≤ room_of room.solver
 
@@ -37,11 +37,10 @@ pub record IsRunnable (application : Application) (sweep : Option Sweep) (domain
   pub valid : All (λ v. IsTrue (application.is_valid v)) domain.values
   pub room_for : HasRoomFor domain sweep room
 
--- The rank is ready for turns, there is room for its values and for a line.
+-- The rank is ready for turns, and there is room for its values.
 pub record IsReady (application : Application) (sweep : Option Sweep) (running : Running) : Type 0 where
   pub kept : IsKept application sweep running.rank
   pub values : length running.values ≡ place_count running.rank.patch
-  pub line : 128 ≤ vec_capacity running.line
 
 -- what a run keeps of the box that it began with
 pub record KeepsBox (domain : Domain) (running : Running) : Type 0 where
@@ -52,7 +51,7 @@ pub record KeepsBox (domain : Domain) (running : Running) : Type 0 where
   pub cells : running.rank.cells ≡ cells_of (whole_box domain.lattice)
   pub on : IsLattice domain.lattice
   pub some_stream : 0 < length domain.streams
-  pub line : 128 ≤ vec_capacity running.line
+  pub report : running.teller.report ≡ domain.lattice
 
 pub record HasDone (kinetics : Kinetics) (settings : RunSettings) (domain : Domain) (done : ℕ) (running : Running) : Type 0 where
   pub keeps : KeepsBox domain running

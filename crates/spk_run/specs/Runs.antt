@@ -4,13 +4,13 @@ use Rattle.spk_num.specs.declared.sweep.Sweep.{Sweep}
 use Rattle.spk_world.specs.Effects.{Effect, ◌>>◌, answers}
 use Rattle.spk_run.specs.declared.domain.Domain.{Domain}
 use Rattle.spk_sched.specs.declared.run_settings.RunSettings.{RunSettings}
-use Rattle.spk_run.specs.declared.statistics.StatsLine.{StatsLine}
+use Rattle.spk_report.specs.declared.stats_line.StatsLine.{StatsLine}
 use Rattle.spk_sched.specs.Turns.{counts_sum}
 use Rattle.spk_sched.specs.Plans.{elapsed, marks, steps}
 use Rattle.spk_sched.specs.Decompositions.{Triple, whole_of}
 use Rattle.spk_sched.specs.Globals.{GlobalState, Job, Kinetics, global_state, all_counts}
-use Rattle.spk_run.specs.Statistics.{header_text, statistics_text}
-use Rattle.spk_run.specs.Output.{prints_all}
+use Rattle.spk_report.specs.Statistics.{statistics_text}
+use Rattle.spk_run.specs.Output.{header_text, prints_all}
 
 abbrev pub one_rank : Triple
 one_rank = record { x = 1; y = 1; z = 1 }
@@ -49,7 +49,7 @@ domain_after kinetics settings domain = domain_with settings domain settings.len
 
 -- the line of statistics of a box
 abbrev pub line_of : Domain → StatsLine
-line_of domain = record { time = domain.time; counts = domain.counts; sweeps = domain.sweeps }
+line_of domain = record { time = domain.time; counts = domain.counts; sweeps = domain.sweeps; energy = None }
 
 abbrev pub mark_text : Kinetics → RunSettings → Domain → ℕ → List ℕ
 mark_text kinetics settings domain done = statistics_text (line_of (domain_at kinetics settings domain done))

@@ -2,7 +2,7 @@
 
 ghost use Rattle.std.specs.Prelude.{◌≡◌, ◌≤◌, IfSome, IsTrue};
 ghost use Rattle.spk_world.specs.Effects.{Wrote};
-ghost use Rattle.spk_run.specs.Applications.{application_of, has_sweep, has_trials, rules_of};
+ghost use Rattle.spk_run.specs.Applications.{application_of, has_sweep, has_trials, largest_value, rules_of, HasLargestValue};
 ghost use Rattle.spk_run.specs.Output.{prints_all};
 ghost use Rattle.spk_run.specs.Runs.{run_texts, domain_after};
 ghost use Rattle.spk_run.specs.Running.{IsRunnable};
@@ -36,6 +36,20 @@ pub fn has_sweep(style: AppStyle) -> bool
     ensures { result ≡ has_sweep style }
 {
     !matches!(style, AppStyle::DiffusionOff | AppStyle::DiffusionLinear)
+}
+
+/// The greatest value that a site may have, whatever the lattice and the temperature are. The least is 1.
+pub fn largest_value(style: AppStyle) -> u32
+    ensures largest { result ≡ largest_value style }
+    ensures valid { HasLargestValue style result }
+{
+    match style {
+        AppStyle::Potts(q) | AppStyle::PottsNeighonly(q) => q,
+        AppStyle::Ising
+        | AppStyle::IsingSingle
+        | AppStyle::DiffusionOff
+        | AppStyle::DiffusionLinear => 2,
+    }
 }
 
 impl AnyApplication {

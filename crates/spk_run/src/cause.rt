@@ -1,9 +1,10 @@
 //! The causes for which a script is refused, and the faults that they come from.
 
 ghost use Rattle.std.specs.Prelude.{◌≡◌, IfOk, IfSome};
-ghost use Rattle.spk_run.specs.Causes.{IsOfState, line_cause, words_cause, lattice_cause, plan_cause, shape_cause};
+ghost use Rattle.spk_run.specs.Causes.{IsOfContent, IsOfState, line_cause, words_cause, lattice_cause, plan_cause, shape_cause, site_file_cause};
 
 use spk_cmds::CommandFault;
+use spk_files::SiteFault;
 use spk_lattice::{LatticeFault, RegionFault};
 use spk_num::text::Text;
 use spk_sched::PlanFault;
@@ -105,8 +106,32 @@ pub enum Cause {
     NotWhole,
     /// A run has more than 10^9 steps, or ends after 4 * 10^18 ticks.
     RunTooLong,
+    /// A dump has this name already.
+    DumpTwice(Text),
+    /// No dump has this name.
+    NoSuchDump(Text),
+    /// It would be the 33rd dump.
+    TooManyDumps,
     /// No file has this name.
     FileMissing(Text),
+    /// The file with this name has more than 134217728 bytes.
+    FileTooLong(Text),
+    /// A site file has no line with the number of sites before its values, or no values.
+    NoHeader,
+    /// A site file is for this number of sites.
+    SitesCount(u64),
+    /// This line of a site file, counted from 1, isn't two numbers.
+    BadLine(u32),
+    /// No site has the id in this line of a site file.
+    BadId(u32),
+    /// The id in this line of a site file has a value already.
+    TwiceId(u32),
+    /// A site file has no value for the site with this id.
+    MissingId(u32),
+    /// The application has no such value as that in this line of a site file.
+    BadValue(u32),
+    /// A site file has another section at this line.
+    OtherSection(u32),
 }
 
 impl Cause {
@@ -180,6 +205,24 @@ impl Cause {
         match fault {
             LatticeFault::TooSmall(dimension) => Cause::TooSmall(dimension),
             LatticeFault::TooManySites => Cause::TooManySites,
+        }
+    }
+
+    /// The cause that a fault of a site file is. Out of memory is none.
+    pub fn of_site_file(fault: SiteFault) -> Option<Cause>
+        ensures cause { result ≡ site_file_cause fault }
+        ensures of_content { IfSome result IsOfContent }
+    {
+        match fault {
+            SiteFault::NoHeader => Some(Cause::NoHeader),
+            SiteFault::SitesCount(count) => Some(Cause::SitesCount(count)),
+            SiteFault::BadLine(line) => Some(Cause::BadLine(line)),
+            SiteFault::BadId(line) => Some(Cause::BadId(line)),
+            SiteFault::TwiceId(line) => Some(Cause::TwiceId(line)),
+            SiteFault::MissingId(id) => Some(Cause::MissingId(id)),
+            SiteFault::BadValue(line) => Some(Cause::BadValue(line)),
+            SiteFault::OtherSection(line) => Some(Cause::OtherSection(line)),
+            SiteFault::Memory => None,
         }
     }
 

@@ -1,12 +1,12 @@
 //! The commands of a session: for which cause each is refused, and what it does.
 
-ghost use Rattle.std.specs.Prelude.{◌≡◌, None, IfOk, IfSome};
+ghost use Rattle.std.specs.Prelude.{◌≡◌, None, IfNone, IfOk, IfSome};
 ghost use Rattle.spk_cmds.specs.WellFormed.{IsWellFormed};
 ghost use Rattle.spk_world.specs.Effects.{Wrote};
-ghost use Rattle.spk_run.specs.Causes.{IsOfState};
+ghost use Rattle.spk_run.specs.Causes.{FileRefusalRose, IsOfFile, IsOfState};
 ghost use Rattle.spk_run.specs.States.{if_so};
 ghost use Rattle.spk_run.specs.Commands.{state_cause, cause, set_by, performs};
-ghost use Rattle.spk_run.specs.Faults.{fault_stop, done_to, LeavesDone, WritesAfterMemory};
+ghost use Rattle.spk_run.specs.Faults.{fault_stop, verdict, trouble_of, Leaves, OnRefusal, Unwritten};
 
 use crate::cause::Cause;
 use crate::fault::Fault;
@@ -22,6 +22,7 @@ mod dimension;
 mod lattice;
 mod not_built;
 mod print;
+mod read_sites;
 mod region;
 mod run;
 mod seed;
@@ -53,6 +54,7 @@ impl SessionState {
             Command::CreateBox { region } => self.box_cause(alloc, region),
             Command::CreateSites => Ok(self.sites_cause()),
             Command::Set { region, .. } => self.set_cause(alloc, region),
+            Command::ReadSites { .. } => Ok(self.read_cause()),
             Command::Run { length } => Ok(self.run_cause(alloc, ticks_of(*length))),
             _ => Ok(None),
         }
@@ -105,23 +107,26 @@ impl SessionState {
         Ok(())
     }
 
-    /// Obeys a command that has no cause in the state.
+    /// Obeys a command that has no cause in the state, or refuses it for a file that it loads.
     pub fn perform<W: World>(
         &mut self,
         alloc: Global,
         command: &Command,
         world: &mut W,
-    ) -> Result<(), Fault>
+    ) -> Result<Result<(), Cause>, Fault>
         requires formed { IsWellFormed command.now }
         requires free { cause self.old command.now ≡ None }
-        ensures wrote { Wrote fault_stop (W.state world.old) (W.state world.new) (performs self.old command.now) (done_to self.new result) }
-        ensures memory { WritesAfterMemory (W.state world.old).told (W.state world.new).told result }
-        ensures session { LeavesDone (W.state world.old).told (performs self.old command.now) self.old self.new result }
+        ensures wrote { Wrote fault_stop (W.state world.old) (W.state world.new) (performs self.old command.now) (verdict self.new result) }
+        ensures refused { OnRefusal result IsOfFile }
+        ensures untold { IfNone (W.state world.old).told (OnRefusal result (FileRefusalRose (W.state world.old).faults (W.state world.new).faults)) }
+        ensures memory { Unwritten (W.state world.old).told (W.state world.new).told (trouble_of result) }
+        ensures session { Leaves (W.state world.old).told (performs self.old command.now) self.old self.new (trouble_of result) }
     {
         match command {
-            Command::Run { length } => self.run(alloc, ticks_of(*length), world),
-            Command::Print { text } => self.print(alloc, text, world),
-            _ => Ok(self.set(alloc, command)?),
+            Command::ReadSites { file } => self.read_sites(alloc, file, world),
+            Command::Run { length } => Ok(Ok(self.run(alloc, ticks_of(*length), world)?)),
+            Command::Print { text } => Ok(Ok(self.print(alloc, text, world)?)),
+            _ => Ok(Ok(self.set(alloc, command)?)),
         }
     }
 }

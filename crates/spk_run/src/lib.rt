@@ -19,7 +19,6 @@ mod session;
 mod simulate;
 mod solver;
 mod state;
-mod statistics;
 mod streams;
 mod teller;
 #[cfg(test)]

@@ -59,7 +59,19 @@ fn number(cause: &Cause) -> u32
         Cause::BadValueForApp(_) => 324,
         Cause::NotWhole => 325,
         Cause::RunTooLong => 326,
+        Cause::DumpTwice(_) => 327,
+        Cause::NoSuchDump(_) => 328,
+        Cause::TooManyDumps => 329,
         Cause::FileMissing(_) => 401,
+        Cause::FileTooLong(_) => 402,
+        Cause::NoHeader => 411,
+        Cause::SitesCount(_) => 412,
+        Cause::BadLine(_) => 413,
+        Cause::BadId(_) => 414,
+        Cause::TwiceId(_) => 415,
+        Cause::MissingId(_) => 416,
+        Cause::BadValue(_) => 417,
+        Cause::OtherSection(_) => 418,
     }
 }
 
@@ -122,7 +134,19 @@ fn text(alloc: Global, cause: &Cause) -> Result<String, AllocError>
         Cause::BadValueForApp(site) => format!(in alloc; "bad value at site {site}"),
         Cause::NotWhole => String::from_str(alloc, "not a whole number of sweeps"),
         Cause::RunTooLong => String::from_str(alloc, "run too long"),
+        Cause::DumpTwice(name) => dump_twice(alloc, name),
+        Cause::NoSuchDump(name) => with_word(alloc, "no dump ", name),
+        Cause::TooManyDumps => String::from_str(alloc, "more than 32 dumps"),
         Cause::FileMissing(name) => with_word(alloc, "no file ", name),
+        Cause::FileTooLong(name) => file_too_long(alloc, name),
+        Cause::NoHeader => String::from_str(alloc, "site file has no header"),
+        Cause::SitesCount(count) => format!(in alloc; "site file has {count} sites"),
+        Cause::BadLine(line) => format!(in alloc; "bad line {line}"),
+        Cause::BadId(line) => format!(in alloc; "bad id in line {line}"),
+        Cause::TwiceId(line) => format!(in alloc; "id twice in line {line}"),
+        Cause::MissingId(id) => format!(in alloc; "no id {id}"),
+        Cause::BadValue(line) => format!(in alloc; "bad value in line {line}"),
+        Cause::OtherSection(line) => format!(in alloc; "other section in line {line}"),
     }
 }
 
@@ -144,6 +168,22 @@ fn region_twice(alloc: Global, name: &Text) -> Result<String, AllocError>
 {
     let name = name.as_str();
     format!(in alloc; "region {name} is there")
+}
+
+/// What is said of a dump whose name another one has.
+fn dump_twice(alloc: Global, name: &Text) -> Result<String, AllocError>
+    ensures { IfOk result (λ text. string_bytes text ≡ cause_text (Cause.DumpTwice name.now)) }
+{
+    let name = name.as_str();
+    format!(in alloc; "dump {name} is there")
+}
+
+/// What is said of a file that has too many bytes.
+fn file_too_long(alloc: Global, name: &Text) -> Result<String, AllocError>
+    ensures { IfOk result (λ text. string_bytes text ≡ cause_text (Cause.FileTooLong name.now)) }
+{
+    let name = name.as_str();
+    format!(in alloc; "file {name} too long")
 }
 
 /// What is said of a variable whose style has no next value.

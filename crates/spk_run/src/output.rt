@@ -3,12 +3,16 @@
 ghost use Rattle.std.specs.Prelude.{◌≡◌, OnOk, IfOk, IfErr};
 ghost use Rattle.spk_world.specs.Outside.{says};
 ghost use Rattle.spk_world.specs.Effects.{writes, Wrote};
-ghost use Rattle.spk_run.specs.Output.{log_target, logs, prints, echoes, starts_log};
+ghost use Rattle.spk_report.specs.Output.{logs, prints};
+ghost use Rattle.spk_report.specs.Output.{IsTroubleOf, log_name, name_of, trouble_stop};
+ghost use Rattle.spk_report.specs.Statistics.{statistics_text};
+ghost use Rattle.spk_run.specs.Output.{log_target, echoes, starts_log};
 ghost use Rattle.spk_run.specs.Endings.{target_stop};
 
 use crate::answer::Target;
 use spk_cmds::Echo;
 use spk_num::text::Text;
+use spk_report::{Report, StatsLine, WriteTrouble};
 use spk_world::World;
 use std::alloc::{AllocError, Global};
 
@@ -81,6 +85,44 @@ impl Output {
     {
         say(world, text)?;
         self.log(world, text)
+    }
+
+    /// The name of the log, where there is one.
+    fn log_name(&self) -> Option<&str>
+        ensures { name_of result ≡ self.now.log }
+    {
+        match &self.log {
+            Some(name) => Some(name.as_str()),
+            None => None,
+        }
+    }
+
+    /// Where a line of statistics was not written.
+    fn target_of(&mut self, trouble: WriteTrouble) -> Target
+        requires { IsTroubleOf self.old.log trouble }
+        ensures { target_stop result ≡ trouble_stop (log_name self.old.log) trouble }
+    {
+        match trouble {
+            WriteTrouble::Screen => Target::Screen,
+            WriteTrouble::File => self.log_target(),
+        }
+    }
+
+    /// Writes a line of statistics to the screen, and then to the log.
+    pub fn print_line<W: World>(
+        &mut self,
+        world: &mut W,
+        report: &mut Report,
+        line: &StatsLine,
+    ) -> Result<(), Target>
+        ensures wrote { Wrote target_stop (W.state world.old) (W.state world.new) (prints self.old.log (statistics_text line.now)) result }
+        ensures kept { OnOk result (self.new.log ≡ self.old.log) }
+        ensures report { report.new ≡ report.old }
+    {
+        match report.stats_line(world, self.log_name(), line) {
+            Ok(()) => Ok(()),
+            Err(trouble) => Err(self.target_of(trouble)),
+        }
     }
 
     /// Echoes the lines of a command in this style.

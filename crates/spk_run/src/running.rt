@@ -1,6 +1,6 @@
 //! A run that goes on, cycle by cycle.
 
-ghost use Rattle.std.specs.Prelude.{◌≡◌, ◌+◌, ◌-◌, ◌*◌, ◌^◌, ◌<◌, ◌≤◌, ℕ, List, Option, length, vec_capacity, Ok, IfOk, IfSome, IsTrue, true};
+ghost use Rattle.std.specs.Prelude.{◌≡◌, ◌+◌, ◌-◌, ◌*◌, ◌^◌, ◌<◌, ◌≤◌, ℕ, List, Option, length, Ok, IfOk, IfSome, IsTrue, true};
 ghost use Rattle.spk_world.specs.Effects.{Effect};
 ghost use Rattle.spk_world.specs.States.{WorldState};
 ghost use Rattle.spk_app.specs.Applications.{Application};
@@ -22,7 +22,6 @@ use crate::domain::Domain;
 use crate::output::Output;
 use crate::rank::{Rank, SWEEP, all_cells};
 use crate::solver::AnySolver;
-use crate::statistics::{LINE_ROOM, StatsLine};
 use crate::streams::Streams;
 use crate::teller::Teller;
 use crate::values::Values;
@@ -31,17 +30,20 @@ use spk_cmds::SolveStyle;
 use spk_lattice::Lattice;
 use spk_num::sweep::Sweep;
 use spk_patch::Patch;
+use spk_report::{Report, StatsLine};
 use spk_sched::{Counts, Plan};
 use spk_world::World;
 use std::alloc::{AllocError, Global};
 use std::sync::ledger::Ledger;
 
+/// Room for a part of a text, in bytes.
+const TEXT_ROOM: usize = 65536;
+
 /// What a run needs besides the box. It is made before the run's first write.
 #[derive(Debug, Drop)]
 pub struct RunRoom {
     pub output: Output,
-    /// A line of statistics.
-    pub line: Vec<u8>,
+    pub report: Report,
     pub patch: Patch,
     pub solver: AnySolver,
 }
@@ -59,7 +61,6 @@ pub struct Running {
     pub counts: Counts,
     pub sweeps: u64,
     pub rank: Rank,
-    pub line: Vec<u8>,
     pub teller: Teller,
 }
 
@@ -91,7 +92,7 @@ impl RunRoom {
         };
         Ok(RunRoom {
             output,
-            line: Vec::with_capacity(alloc, LINE_ROOM)?,
+            report: Report::new(alloc, lattice, TEXT_ROOM)?,
             patch: Patch::new(alloc, lattice, &all_cells(lattice), 0, true)?,
             solver: AnySolver::new(alloc, solver, kept)?,
         })
@@ -119,7 +120,7 @@ impl Running {
         } = domain;
         let RunRoom {
             output,
-            line,
+            report,
             mut patch,
             solver,
         } = room;
@@ -142,8 +143,7 @@ impl Running {
             counts,
             sweeps,
             rank,
-            line,
-            teller: Teller::new(output),
+            teller: Teller::new(output, report),
         }
     }
 
@@ -173,7 +173,6 @@ impl Running {
 
     /// Writes the line of statistics at the time.
     pub fn tell<W: World>(&mut self, world: &mut W)
-        requires line { 128 ≤ vec_capacity self.old.line }
         ensures ready { (application : Application) (sweep : Option Style) → IsReady application sweep self.old → IsReady application sweep self.new }
         ensures done { (kinetics : RunKinetics) (settings : Settings) (domain : Box) (done : ℕ) →
             HasDone kinetics settings domain done self.old → HasDone kinetics settings domain done self.new }
@@ -186,9 +185,9 @@ impl Running {
             time: self.time,
             counts: self.counts.plus(self.rank.counts),
             sweeps: self.sweeps,
+            energy: None,
         };
-        line.write(&mut self.line);
-        self.teller.tell(world, &self.line);
+        self.teller.tell_line(world, &line);
     }
 
     /// Goes on with a step of its plan.

@@ -102,8 +102,7 @@ impl Session {
         if let Some(cause) = self.state.cause(self.alloc, command)? {
             return Ok(Err(cause));
         }
-        self.state.perform(self.alloc, command, world)?;
-        Ok(Ok(()))
+        self.state.perform(self.alloc, command, world)
     }
 
     /// Obeys a command, or refuses it: of several causes it is the one with the least number.

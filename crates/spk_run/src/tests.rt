@@ -177,6 +177,81 @@ fn goes_on_after_a_failed_write(rt: HostRuntime) -> Result<(), TestFailed> {
     Ok(())
 }
 
+/// A site file in which the fifth of ten sites has the value 2.
+const SITE_FILE: &str =
+    "by hand\n10 sites\nValues\n\n10 1\n1 1\n2 1\n3 1\n4 1\n5 2\n6 1\n7 1\n8 1\n9 1\n";
+
+/// A site file that has no value for the first site.
+const BAD_FILE: &str = "by hand\n10 sites\nValues\n\n5 2\n";
+
+/// A session with ten sites, in a world that has this site file.
+fn with_site_file(rt: &impl Abort, alloc: Global, text: &str) -> Result<Bench, TestFailed> {
+    let mut bench = Bench::new(alloc)?;
+    bench.obey_all(rt, &SITES)?;
+    bench.world.put_file("sites", text.as_bytes())?;
+    Ok(bench)
+}
+
+/// A run goes on from the values of a file as from the same values by `set`, and not as before.
+#[test]
+fn reads_a_site_file(rt: HostRuntime) -> Result<(), TestFailed> {
+    let mut bench = with_site_file(&rt, rt.alloc(), SITE_FILE)?;
+    bench.obey_all(&rt, &["read_sites sites"])?;
+    bench.expect(&rt, "");
+    bench.obey_all(&rt, &["run 2"])?;
+    let mut other = Bench::new(rt.alloc())?;
+    other.obey_all(&rt, &SITES)?;
+    other.obey_all(&rt, &["region one block 4 4.5 0 1 0 1"])?;
+    other.obey_all(&rt, &["set site value 2 region one", "run 2"])?;
+    assert!(rt; bench.world.said.as_slice() == other.world.said.as_slice());
+    assert!(rt; bench.world.said.as_slice() != RUN.as_bytes());
+    Ok(())
+}
+
+/// The file that was to be read: it is missing, or could not be read.
+fn unread_file(obeyed: Result<(), Trouble>) -> Option<Text> {
+    match obeyed {
+        Err(Trouble::Refused(Cause::FileMissing(name)) | Trouble::ReadFault(name)) => Some(name),
+        _ => None,
+    }
+}
+
+#[test]
+fn names_a_missing_site_file(rt: HostRuntime) -> Result<(), TestFailed> {
+    let mut bench = with_site_file(&rt, rt.alloc(), SITE_FILE)?;
+    let refused = bench.obey("read_sites other")?;
+    assert!(rt; matches!(refused, Err(Trouble::Refused(_))));
+    let name = unread_file(refused).ok_or("a file")?;
+    assert!(rt; name.as_str() == "other");
+    bench.expect(&rt, "");
+    Ok(())
+}
+
+/// A load that failed names the site file, and leaves the values as they were.
+#[test]
+fn names_the_site_file_that_failed(rt: HostRuntime) -> Result<(), TestFailed> {
+    let mut bench = with_site_file(&rt, rt.alloc(), SITE_FILE)?;
+    fails_at(&mut bench, 1, 0)?;
+    let failed = bench.obey("read_sites sites")?;
+    assert!(rt; matches!(failed, Err(Trouble::ReadFault(_))));
+    let name = unread_file(failed).ok_or("a file")?;
+    assert!(rt; name.as_str() == "sites");
+    bench.obey_all(&rt, &["run 2"])?;
+    bench.expect(&rt, RUN);
+    Ok(())
+}
+
+/// A bad file leaves the values as they were.
+#[test]
+fn keeps_the_values_for_a_bad_site_file(rt: HostRuntime) -> Result<(), TestFailed> {
+    let mut bench = with_site_file(&rt, rt.alloc(), BAD_FILE)?;
+    let refused = bench.obey("read_sites sites")?;
+    assert!(rt; matches!(refused, Err(Trouble::Refused(Cause::MissingId(1)))));
+    bench.obey_all(&rt, &["run 2"])?;
+    bench.expect(&rt, RUN);
+    Ok(())
+}
+
 /// The word with which a command is refused as not built.
 fn unbuilt_word(refused: Result<(), Trouble>) -> Option<Text> {
     match refused {

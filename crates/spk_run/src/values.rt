@@ -1,6 +1,6 @@
 //! The values of the sites.
 
-ghost use Rattle.std.specs.Prelude.{◌≡◌, ◌<◌, ◌≤◌, not, [], length, position, replicate, slice_index, slice_set, IfOk};
+ghost use Rattle.std.specs.Prelude.{◌≡◌, ◌<◌, ◌≤◌, not, [], length, position, replicate, slice_index, slice_set, vec_len, IfOk};
 ghost use Rattle.spk_run.specs.Applications.{rules_of};
 
 use crate::application::AnyApplication;
@@ -41,6 +41,14 @@ impl Values {
     {
         let items = vec![in alloc; value; count as usize]?;
         Ok(Values { items })
+    }
+
+    /// These values.
+    pub fn from_vec(items: Vec<u32>) -> Values
+        requires { vec_len items ≤ 4194304 }
+        ensures { result ≡ items.items }
+    {
+        Values { items }
     }
 
     /// How many sites there are.

@@ -4,7 +4,7 @@ use Rattle.std.specs.Prelude.{ℕ, Bool, if◌then◌else◌, List, codes, Optio
 use Rattle.std.specs.List.{list_any}
 use Rattle.spk_num.specs.declared.sweep.Sweep.TheVariants.{Color}
 use Rattle.spk_cmds.specs.declared.command.Command.{Command}
-use Rattle.spk_cmds.specs.declared.command.Command.TheVariants.{Boundary, Processors, ReadSites, WriteRestart, ReadRestart, Sector, Sweep, DiagEnergy, Dump, Undump}
+use Rattle.spk_cmds.specs.declared.command.Command.TheVariants.{Boundary, Processors, WriteRestart, ReadRestart, Sector, Sweep, DiagEnergy, Dump, Undump}
 
 abbrev pub word_if : Bool → List ℕ → Option (List ℕ)
 word_if unbuilt word = if unbuilt then Some word else None
@@ -13,7 +13,6 @@ word_if unbuilt word = if unbuilt then Some word else None
 unfoldable pub unbuilt_word : Command → Option (List ℕ)
 unbuilt_word (Boundary faces) = word_if (list_any (λ face. face) faces) (codes "boundary")
 unbuilt_word (Processors ranks) = Some (codes "processors")
-unbuilt_word (ReadSites file) = Some (codes "read_sites")
 unbuilt_word (WriteRestart file) = Some (codes "write_restart")
 unbuilt_word (ReadRestart file) = Some (codes "read_restart")
 unbuilt_word (Sector divided tstop nstop) = Some (codes "sector")

@@ -34,7 +34,6 @@ pub fn unbuilt_word(alloc: Global, command: &Command) -> Result<Option<Text>, Al
     match command {
         Command::Boundary { faces } => word_if(alloc, has_open_face(faces), "boundary"),
         Command::Processors { .. } => word_if(alloc, true, "processors"),
-        Command::ReadSites { .. } => word_if(alloc, true, "read_sites"),
         Command::WriteRestart { .. } => word_if(alloc, true, "write_restart"),
         Command::ReadRestart { .. } => word_if(alloc, true, "read_restart"),
         Command::Sector { .. } => word_if(alloc, true, "sector"),
@@ -52,6 +51,7 @@ pub fn unbuilt_word(alloc: Global, command: &Command) -> Result<Option<Text>, Al
         | Command::CreateBox { .. }
         | Command::CreateSites
         | Command::Set { .. }
+        | Command::ReadSites { .. }
         | Command::Temperature { .. }
         | Command::Solve { .. }
         | Command::Sweep { .. }

@@ -3,7 +3,7 @@
 ghost use Rattle.std.specs.Prelude.{◌≡◌, ◌++◌, ◌∷◌, [], IfErr, IfOk};
 ghost use Rattle.spk_world.specs.Effects.{Wrote};
 ghost use Rattle.spk_run.specs.Faults.{fault_stop, NoRead, WritesAfterMemory};
-ghost use Rattle.spk_run.specs.Output.{prints};
+ghost use Rattle.spk_report.specs.Output.{prints};
 
 use crate::fault::Fault;
 use crate::output::Output;

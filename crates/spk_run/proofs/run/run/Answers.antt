@@ -10,16 +10,16 @@ use Rattle.spk_run.proofs.run.run.Goals as goal
 pub loop-step-init : goal.loop-step-init
 loop-step-init g c =
     let kinetics = kinetics_of (g.A.App.rules c.args.app.now) (rule_of (style_of c.args.room.solver)) in
-    let has = has_done_telling kinetics c.args.plan.now c.args.domain 0 c.new-running.result c.tell.new.self (c.new-running.ensures.done c.args.plan.now (sym c.sweep.ensures)) in
+    let has = has_done_telling kinetics c.args.plan.now c.args.domain 0 c.new-running.result c.tell.new.self c.tell.ensures.report (c.new-running.ensures.done c.args.plan.now (sym c.sweep.ensures)) in
     let ready = rw c.sweep.ensures at c.new-running.ensures.ready in
     let log = ap (λ (output : Output). output.log) c.new-running.ensures.output in
-    let header = c.tell.ensures _ _ _ _ (starts_telling (g.W.World.state c.args.world.now) c.args.room.output.log kinetics c.args.plan.now c.args.domain c.new-running.result.teller c.new-running.ensures.written log) in
+    let header = c.tell.ensures.telling _ _ _ _ (starts_telling (g.W.World.state c.args.world.now) c.args.room.output.log kinetics c.args.plan.now c.args.domain c.new-running.result.teller c.new-running.ensures.written log) in
     record {
       on = record {
         has_done = c.tell-2.ensures.done kinetics c.args.plan.now c.args.domain 0 has;
         goes = c.tell-2.ensures.telling kinetics c.args.plan.now c.args.domain 0 _ _ _ _ c.requires.one_sector has header;
       };
-      ready = c.tell-2.ensures.ready _ _ (record { kept = ready.kept; values = ready.values; line = ready.line });
+      ready = c.tell-2.ensures.ready _ _ (record { kept = ready.kept; values = ready.values });
     }
 
 pub step-requires-clause-step : goal.step-requires-clause-step

@@ -18,7 +18,7 @@ returns-clause-done g c = λ settings same.
         cells = c.all_cells.ensures;
         on = c.known.ensures;
         some_stream = c.first.ensures.some;
-        line = c.requires.room_for.line;
+        report = c.new.ensures.report ∙ c.requires.room_for.report;
       };
       time = omega (arith, elapsed_none settings);
       sweeps = c.sweep_count-sweeps.ensures ∙ no_sweeps settings c.args.domain.sweeps (omega (arith, c.sweep_count-sweeps.ensures, c.sweep_count-sweeps.type_inv));
@@ -33,5 +33,4 @@ returns-clause-ready g c =
       kept = new_kept (g.A.App.rules c.args.app.now) c.args.sweep c.args.domain.lattice c.args.domain.values _ c.known-2.ensures.patch (all_cells_with _ _ _ _ c.fill_from.ensures c.requires.room_for.patch) c.all_cells.ensures
           (shown ∙ c.as_slice.ensures) c.requires.valid c.requires.room_for.solver refl c.none.ensures;
       values = sym (ap length (shown ∙ c.as_slice.ensures)) ∙ c.known-2.ensures.patch.filled;
-      line = c.requires.room_for.line;
     }

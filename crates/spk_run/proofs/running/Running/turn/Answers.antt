@@ -9,7 +9,6 @@ pub returns-in-Some-clause-ready : goal.returns-in-Some-clause-ready
 returns-in-Some-clause-ready g c = record {
   kept = c.turn.ensures.kept;
   values = c.requires.ready.values ∙ sym (ap (λ (p : PatchSites). place_count p) c.turn.ensures.patch);
-  line = c.requires.ready.line;
 }
 
 pub returns-in-Some-clause-done : goal.returns-in-Some-clause-done
@@ -23,7 +22,7 @@ returns-in-Some-clause-done g c = λ rule settings domain done one whole same wi
       cells = c.turn.ensures.cells ∙ has.keeps.cells;
       on = has.keeps.on;
       some_stream = has.keeps.some_stream;
-      line = has.keeps.line;
+      report = has.keeps.report;
     })
     refl
     (c.saturating_add-self.ensures ∙ sweeps_go settings c.in-Some.field-0 done domain.sweeps c.args.self.now.sweeps c.args.ticks one (same ∙ c.in-Some.is) whole window_is has.sweeps)
@@ -33,7 +32,6 @@ pub returns-in_default-clause-ready : goal.returns-in_default-clause-ready
 returns-in_default-clause-ready g c = record {
   kept = c.turn.ensures.kept;
   values = c.requires.ready.values ∙ sym (ap (λ (p : PatchSites). place_count p) c.turn.ensures.patch);
-  line = c.requires.ready.line;
 }
 
 pub returns-in_default-clause-done : goal.returns-in_default-clause-done
@@ -47,7 +45,7 @@ returns-in_default-clause-done g c = λ rule settings domain done one whole same
       cells = c.turn.ensures.cells ∙ has.keeps.cells;
       on = has.keeps.on;
       some_stream = has.keeps.some_stream;
-      line = has.keeps.line;
+      report = has.keeps.report;
     })
     refl
     (sweeps_stay settings done domain.sweeps c.args.self.now.sweeps (same ∙ c.in_default.is) has.sweeps)

@@ -1,12 +1,12 @@
 use Rattle.std.proofs.Common.{sym, ◌∙◌}
-use Rattle.spk_run.specs.Output.{prints}
+use Rattle.spk_report.specs.Output.{prints}
 use Rattle.spk_run.proofs.Tellers.{silent_teller, teller_more}
 use Rattle.spk_run.proofs.teller.Teller.tell.Goals as goal
 
-pub returns-then-is_err : goal.returns-then-is_err
-returns-then-is_err g c = λ start log whole rest on.
+pub returns-then-is_err-clause-telling : goal.returns-then-is_err-clause-telling
+returns-then-is_err-clause-telling g c = λ start log whole rest on.
     silent_teller start _ log c.args.self.now whole rest (prints log c.args.text.now) (sym c.is_err.ensures.value ∙ c.if-is_err.true) on
 
-pub returns : goal.returns
-returns g c = λ start log whole rest on.
-    teller_more start _ _ log c.args.self.now _ _ c.args.text.now whole rest (sym c.is_err.ensures.value ∙ c.if-is_err.false) on c.print.ensures.wrote c.print.ensures.kept
+pub returns-clause-telling : goal.returns-clause-telling
+returns-clause-telling g c = λ start log whole rest on.
+    teller_more start _ _ log c.args.self.now _ _ _ c.args.text.now whole rest (sym c.is_err.ensures.value ∙ c.if-is_err.false) on c.print.ensures.wrote c.print.ensures.kept
