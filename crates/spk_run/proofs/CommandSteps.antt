@@ -20,10 +20,12 @@ use Rattle.spk_run.specs.declared.domain.Domain.{Domain}
 use Rattle.spk_run.specs.declared.fault.Fault.{Fault}
 use Rattle.spk_run.specs.declared.fault.Fault.TheVariants as fault
 use Rattle.spk_sched.specs.declared.run_settings.RunSettings.{RunSettings}
+use Rattle.spk_run.specs.declared.dump.DumpState.{DumpState}
+use Rattle.spk_run.specs.declared.state.LatticeStyle.{LatticeStyle}
 use Rattle.spk_run.specs.declared.state.SessionState.{SessionState}
 use Rattle.spk_run.specs.Endings.{target_stop}
 use Rattle.spk_run.specs.declared.commands.run.Prepared.{Prepared}
-use Rattle.spk_run.specs.Prepared.{IsFor, IsPreparedFor, IsPrepared, kinetics_for}
+use Rattle.spk_run.specs.Prepared.{IsFor, IsPreparedFor, IsPrepared, display_for, kinetics_for}
 use Rattle.spk_app.specs.Applications.{Application}
 use Rattle.spk_lattice.specs.Layout.{sites_of}
 use Rattle.spk_cmds.specs.declared.command.AppStyle.{AppStyle}
@@ -34,18 +36,17 @@ use Rattle.spk_script.proofs.Cuts.{place_missing}
 use Rattle.std.specs.Prelude.{Bool, IsTrue, true, not, ◌&&◌, is_some}
 use Rattle.spk_run.specs.Faults.{fault_stop, verdict, done_to, trouble_of, NoRead, LeavesDone, Leaves, WritesAfterMemory}
 use Rattle.spk_report.specs.Output.{prints}
-use Rattle.spk_run.specs.Output.{prints_all}
 use Rattle.spk_sched.specs.Plans.{plan_fault}
 use Rattle.spk_sched.specs.Globals.{Kinetics, kinetics_of}
 use Rattle.spk_cmds.specs.declared.command.SolveStyle.{SolveStyle}
 use Rattle.spk_run.specs.Causes.{plan_cause}
 use Rattle.spk_run.specs.Solvers.{rule_of, style_of}
 use Rattle.spk_run.specs.Running.{IsRunnable}
-use Rattle.spk_run.specs.Runs.{runs, run_texts, domain_after}
+use Rattle.spk_run.specs.Runs.{Display, RunEnd, runs, domain_after, dumps_after, end_of, tells_run}
 use Rattle.spk_run.specs.States.{first_of, if_so, ticks_of, are_made, has_sites}
 use Rattle.spk_run.specs.Commands.{cause, set_by, performs}
 use Rattle.spk_run.specs.Commands.NotBuilt.{unbuilt_word}
-use Rattle.spk_run.specs.Commands.Run.{application_on, kinetics_in, settings_of, bad_value, domain_cause, domain_causes, run_causes, run_cause, with_domain, runs_by, runs_domain, runs_domain_by, performs_run, lacks_sweep}
+use Rattle.spk_run.specs.Commands.Run.{application_on, display_in, kinetics_in, settings_of, bad_value, domain_cause, domain_causes, run_causes, run_cause, with_run, runs_by, runs_domain, runs_domain_by, performs_run, lacks_sweep}
 
 pub fault_stop-memory : fault_stop fault.Memory ≡ WorldOutOfMemory
 unfolding fault_stop
@@ -112,83 +113,98 @@ pub print_left : (told : Option Outside) (state : SessionState) (text : List ℕ
 print_left = print_left_by
 
 -- there is nothing to run without a box
-pub nothing_runs : {world : WorldState} (state : SessionState) (kinetics : Kinetics) (settings : RunSettings) (domain : Option Domain) → state.domain ≡ None → domain ≡ None →
-    Wrote fault_stop world world (runs_domain_by state kinetics settings state.domain) (Ok (Ok (record state { domain = domain })))
-nothing_runs {world = world} state kinetics settings domain none after =
-    subst (λ (d : Option Domain). Wrote fault_stop world world (runs_domain_by state kinetics settings state.domain) (Ok (Ok (record state { domain = d })))) (none ∙ sym after) (rw none wrote_answer)
+pub nothing_runs : {world : WorldState} (state : SessionState) (display : Display) (kinetics : Kinetics) (settings : RunSettings) (domain : Option Domain) → state.domain ≡ None → domain ≡ None →
+    Wrote fault_stop world world (runs_domain_by state display kinetics settings state.domain) (Ok (Ok (record state { domain = domain })))
+nothing_runs {world = world} state display kinetics settings domain none after =
+    subst (λ (d : Option Domain). Wrote fault_stop world world (runs_domain_by state display kinetics settings state.domain) (Ok (Ok (record state { domain = d })))) (none ∙ sym after) (rw none wrote_answer)
 
 -- a run was done to its end, or stopped
-pub runs_whole : (before now : WorldState) (state : SessionState) (kinetics : Kinetics) (settings : RunSettings) (domain after : Domain) (log : Option (List ℕ)) → state.domain ≡ Some domain → log ≡ state.log →
-    after ≡ domain_after kinetics settings domain → Wrote target_stop before now (prints_all log (run_texts kinetics settings domain)) (Ok tt) →
-    Wrote fault_stop before now (runs_domain_by state kinetics settings state.domain) (Ok (Ok (with_domain state after)))
-runs_whole before now state kinetics settings domain after log is same box done =
-    let whole : Wrote target_stop before now (runs state.log kinetics settings domain) (Ok (domain_after kinetics settings domain)) = wrote_then _ (rw same at done) wrote_answer in
-    rw (is, box) (wrote_then _ (wrote_whole whole) wrote_answer)
+pub runs_whole : (before now : WorldState) (state : SessionState) (display : Display) (kinetics : Kinetics) (settings : RunSettings) (domain after : Domain) (dumps : List DumpState) → state.domain ≡ Some domain →
+    after ≡ domain_after kinetics settings domain → dumps ≡ dumps_after settings domain state.dumps → Wrote target_stop before now (tells_run display kinetics settings domain state.dumps) (Ok tt) →
+    Wrote fault_stop before now (runs_domain_by state display kinetics settings state.domain) (Ok (Ok (with_run state (record { domain = after; dumps = dumps }))))
+runs_whole before now state display kinetics settings domain after dumps is box left done =
+    let whole : Wrote target_stop before now (runs display kinetics settings domain state.dumps) (Ok (end_of kinetics settings domain state.dumps)) = wrote_then _ done wrote_answer in
+    rw (is, box, left) (wrote_then _ (wrote_whole whole) wrote_answer)
 
-pub runs_no_further : (before now : WorldState) (state after : SessionState) (kinetics : Kinetics) (settings : RunSettings) (domain : Domain) (log : Option (List ℕ)) (target : Target) (result : Result (Unit {0}) Fault) →
-    IsErrAnd result (λ y. y ≡ fault.Write target) → state.domain ≡ Some domain → log ≡ state.log →
-    Wrote target_stop before now (prints_all log (run_texts kinetics settings domain)) (Err target) →
-    Wrote fault_stop before now (runs_domain_by state kinetics settings state.domain) (done_to after result)
-runs_no_further before now state after kinetics settings domain log target result failed is same prefix =
-    let part : Wrote target_stop before now (runs state.log kinetics settings domain) (Err target) = wrote_failed {result = Err target} _ refl (rw same at prefix) in
-    let stopped : Wrote fault_stop before now (runs state.log kinetics settings domain) (Err (fault.Write target)) = wrote_fault target (fault_stop-write target) part in
+pub runs_no_further : (before now : WorldState) (state after : SessionState) (display : Display) (kinetics : Kinetics) (settings : RunSettings) (domain : Domain) (target : Target) (result : Result (Unit {0}) Fault) →
+    IsErrAnd result (λ y. y ≡ fault.Write target) → state.domain ≡ Some domain →
+    Wrote target_stop before now (tells_run display kinetics settings domain state.dumps) (Err target) →
+    Wrote fault_stop before now (runs_domain_by state display kinetics settings state.domain) (done_to after result)
+runs_no_further before now state after display kinetics settings domain target result failed is prefix =
+    let part : Wrote target_stop before now (runs display kinetics settings domain state.dumps) (Err target) = wrote_failed {result = Err target} _ refl prefix in
+    let stopped : Wrote fault_stop before now (runs display kinetics settings domain state.dumps) (Err (fault.Write target)) = wrote_fault target (fault_stop-write target) part in
     rw (is, is_error result _ failed) (wrote_failed {result = Err (fault.Write target)} _ refl stopped)
 
 -- after a write that failed the session is the one after the whole run
-runs_answer : (state : SessionState) (kinetics : Kinetics) (settings : RunSettings) (domain : Domain) (outside : Outside) →
-    (runs_by state kinetics settings domain outside).answer ≡ Ok (with_domain state (domain_after kinetics settings domain))
-runs_answer state kinetics settings domain outside =
-    then_answer (runs state.log kinetics settings domain) (λ after. Ok (with_domain state after)) outside
-    ∙ ap (λ (d : Domain). let made : Result SessionState Cause = Ok (with_domain state d) in made) (then_answer (prints_all state.log (run_texts kinetics settings domain)) (λ _. domain_after kinetics settings domain) outside)
+runs_answer : (state : SessionState) (display : Display) (kinetics : Kinetics) (settings : RunSettings) (domain : Domain) (outside : Outside) →
+    (runs_by state display kinetics settings domain outside).answer ≡ Ok (with_run state (end_of kinetics settings domain state.dumps))
+runs_answer state display kinetics settings domain outside =
+    then_answer (runs display kinetics settings domain state.dumps) (λ end. Ok (with_run state end)) outside
+    ∙ ap (λ (end : RunEnd). let made : Result SessionState Cause = Ok (with_run state end) in made) (then_answer (tells_run display kinetics settings domain state.dumps) (λ _. end_of kinetics settings domain state.dumps) outside)
 
-run_session_by : (told : Option Outside) (state : SessionState) (kinetics : Kinetics) (settings : RunSettings) (domain after : Domain) (target : Target) → after ≡ domain_after kinetics settings domain →
-    LeavesDone {A = Unit {0}} told (runs_by state kinetics settings domain) state (with_domain state after) (Err (fault.Write target))
-run_session_by None state kinetics settings domain after target box = tt
-run_session_by (Some outside) state kinetics settings domain after target box = runs_answer state kinetics settings domain outside ∙ rw box refl
+run_session_by : (told : Option Outside) (state : SessionState) (display : Display) (kinetics : Kinetics) (settings : RunSettings) (domain : Domain) (end : RunEnd) (target : Target) → end ≡ end_of kinetics settings domain state.dumps →
+    LeavesDone {A = Unit {0}} told (runs_by state display kinetics settings domain) state (with_run state end) (Err (fault.Write target))
+run_session_by None state display kinetics settings domain end target is = tt
+run_session_by (Some outside) state display kinetics settings domain end target is = runs_answer state display kinetics settings domain outside ∙ rw is refl
 
-pub run_session : (told : Option Outside) (state : SessionState) (kinetics : Kinetics) (settings : RunSettings) (domain after : Domain) (target : Target) (result : Result (Unit {0}) Fault) →
-    IsErrAnd result (λ y. y ≡ fault.Write target) → state.domain ≡ Some domain → after ≡ domain_after kinetics settings domain →
-    LeavesDone told (runs_domain_by state kinetics settings state.domain) state (with_domain state after) result
-run_session told state kinetics settings domain after target result failed is box =
-    subst (λ (d : Option Domain). LeavesDone told (runs_domain_by state kinetics settings d) state (with_domain state after) result) (sym is)
-    (subst (λ (r : Result (Unit {0}) Fault). LeavesDone told (runs_by state kinetics settings domain) state (with_domain state after) r) (sym (is_error result _ failed))
-    (run_session_by told state kinetics settings domain after target box))
+pub run_session : (told : Option Outside) (state : SessionState) (display : Display) (kinetics : Kinetics) (settings : RunSettings) (domain after : Domain) (dumps : List DumpState) (target : Target) (result : Result (Unit {0}) Fault) →
+    IsErrAnd result (λ y. y ≡ fault.Write target) → state.domain ≡ Some domain → after ≡ domain_after kinetics settings domain → dumps ≡ dumps_after settings domain state.dumps →
+    LeavesDone told (runs_domain_by state display kinetics settings state.domain) state (with_run state (record { domain = after; dumps = dumps })) result
+run_session told state display kinetics settings domain after dumps target result failed is box left =
+    subst (λ (d : Option Domain). LeavesDone told (runs_domain_by state display kinetics settings d) state (with_run state (record { domain = after; dumps = dumps })) result) (sym is)
+    (subst (λ (r : Result (Unit {0}) Fault). LeavesDone told (runs_by state display kinetics settings domain) state (with_run state (record { domain = after; dumps = dumps })) r) (sym (is_error result _ failed))
+    (run_session_by told state display kinetics settings domain (record { domain = after; dumps = dumps }) target (rw (box, left) refl)))
 
 -- a failed write alone is a fault after which something may be written
 pub write_after_memory : (before now : Option Outside) (target : Target) (result : Result (Unit {0}) Fault) → IsErrAnd result (λ y. y ≡ fault.Write target) → WritesAfterMemory before now result
 write_after_memory before now target result failed = rw (is_error result _ failed) tt
 
--- what was prepared is for an application and a box
-prepared_by : (state : SessionState) (run : ℕ) (style : Option AppStyle) (domain : Option Domain) (prepared : Prepared) → IsPreparedFor state run style domain (Some prepared) →
-    (asked : AppStyle) × (found : Domain) × (style ≡ Some asked) × (domain ≡ Some found) × IsFor state run asked found prepared
-prepared_by state run (Some asked) (Some found) prepared is = (asked, found, refl, refl, is)
-prepared_by state run (Some asked) None prepared is = absurd (cc is)
-prepared_by state run None (Some found) prepared is = absurd (cc is)
-prepared_by state run None None prepared is = absurd (cc is)
+-- what was prepared is for an application, a lattice and a box
+abbrev pub IsMadeFor : SessionState → ℕ → Option AppStyle → Option LatticeStyle → Option Domain → Prepared → Type 0
+IsMadeFor state run style lattice domain prepared =
+    (asked : AppStyle) × (unit : LatticeStyle) × (found : Domain) × (style ≡ Some asked) × (lattice ≡ Some unit) × (domain ≡ Some found) × IsFor state run asked unit found prepared
 
-pub prepared_for : (state : SessionState) (run : ℕ) (prepared : Prepared) → IsPrepared state run (Some prepared) →
-    (asked : AppStyle) × (found : Domain) × (state.app ≡ Some asked) × (state.domain ≡ Some found) × IsFor state run asked found prepared
-prepared_for state run prepared is = prepared_by state run state.app state.domain prepared is
+prepared_by : (state : SessionState) (run : ℕ) (style : Option AppStyle) (lattice : Option LatticeStyle) (domain : Option Domain) (prepared : Prepared) → IsPreparedFor state run style lattice domain (Some prepared) →
+    IsMadeFor state run style lattice domain prepared
+prepared_by state run (Some asked) (Some unit) (Some found) prepared is = (asked, unit, found, refl, refl, refl, is)
+prepared_by state run (Some asked) (Some unit) None prepared is = absurd (cc is)
+prepared_by state run (Some asked) None (Some found) prepared is = absurd (cc is)
+prepared_by state run (Some asked) None None prepared is = absurd (cc is)
+prepared_by state run None (Some unit) (Some found) prepared is = absurd (cc is)
+prepared_by state run None (Some unit) None prepared is = absurd (cc is)
+prepared_by state run None None (Some found) prepared is = absurd (cc is)
+prepared_by state run None None None prepared is = absurd (cc is)
+
+pub prepared_for : (state : SessionState) (run : ℕ) (prepared : Prepared) → IsPrepared state run (Some prepared) → IsMadeFor state run state.app state.lattice state.domain prepared
+prepared_for state run prepared is = prepared_by state run state.app state.lattice state.domain prepared is
 
 -- else nothing is run
-nothing_by : (state : SessionState) (run : ℕ) (style : Option AppStyle) (domain : Option Domain) → IsPreparedFor state run style domain None → runs_domain state run style domain ≡ answers (Ok state)
-nothing_by state run (Some asked) (Some found) is = absurd is
-nothing_by state run (Some asked) None is = refl
-nothing_by state run None (Some found) is = refl
-nothing_by state run None None is = refl
+nothing_by : (state : SessionState) (run : ℕ) (style : Option AppStyle) (lattice : Option LatticeStyle) (domain : Option Domain) → IsPreparedFor state run style lattice domain None →
+    runs_domain state run style lattice domain ≡ answers (Ok state)
+nothing_by state run (Some asked) (Some unit) (Some found) is = absurd is
+nothing_by state run (Some asked) (Some unit) None is = refl
+nothing_by state run (Some asked) None (Some found) is = refl
+nothing_by state run (Some asked) None None is = refl
+nothing_by state run None (Some unit) (Some found) is = refl
+nothing_by state run None (Some unit) None is = refl
+nothing_by state run None None (Some found) is = refl
+nothing_by state run None None None is = refl
 
 pub runs_nothing : {world : WorldState} (state : SessionState) (run : ℕ) → IsPrepared state run None → Wrote fault_stop world world (performs_run state run) (Ok (Ok state))
-runs_nothing {world = world} state run is = rw (nothing_by state run state.app state.domain is) wrote_answer
+runs_nothing {world = world} state run is = rw (nothing_by state run state.app state.lattice state.domain is) wrote_answer
 
 -- a run with the application and the settings of its session
-pub runs_with : (state : SessionState) (run : ℕ) (asked : AppStyle) (found : Domain) (prepared : Prepared) → state.app ≡ Some asked → state.domain ≡ Some found → IsFor state run asked found prepared →
-    runs_domain_by state (kinetics_for prepared) prepared.plan state.domain ≡ performs_run state run
-runs_with state run asked found prepared style box for_run =
-    ap (λ (d : Option Domain). runs_domain_by state (kinetics_for prepared) prepared.plan d) box
-    ∙ ap (λ (a : Application). runs_by state (kinetics_of a (rule_of (style_of prepared.room.solver))) prepared.plan found) for_run.application
-    ∙ ap (λ (s : SolveStyle). runs_by state (kinetics_of (application_on state asked found) (rule_of s)) prepared.plan found) for_run.solver
-    ∙ ap (λ (s : RunSettings). runs_by state (kinetics_in state asked found) s found) for_run.plan
-    ∙ sym (ap (λ (a : Option AppStyle). runs_domain state run a state.domain) style ∙ ap (λ (d : Option Domain). runs_domain state run (Some asked) d) box)
+pub runs_with : (state : SessionState) (run : ℕ) (asked : AppStyle) (unit : LatticeStyle) (found : Domain) (prepared : Prepared) → state.app ≡ Some asked → state.lattice ≡ Some unit → state.domain ≡ Some found →
+    IsFor state run asked unit found prepared →
+    runs_domain_by state (display_for prepared) (kinetics_for prepared) prepared.plan state.domain ≡ performs_run state run
+runs_with state run asked unit found prepared style lattice box for_run =
+    ap (λ (d : Option Domain). runs_domain_by state (display_for prepared) (kinetics_for prepared) prepared.plan d) box
+    ∙ ap (λ (d : Display). runs_by state d (kinetics_for prepared) prepared.plan found) for_run.display
+    ∙ ap (λ (a : Application). runs_by state (display_in state asked unit) (kinetics_of a (rule_of (style_of prepared.room.solver))) prepared.plan found) for_run.application
+    ∙ ap (λ (s : SolveStyle). runs_by state (display_in state asked unit) (kinetics_of (application_on state asked found) (rule_of s)) prepared.plan found) for_run.solver
+    ∙ ap (λ (s : RunSettings). runs_by state (display_in state asked unit) (kinetics_in state asked found) s found) for_run.plan
+    ∙ sym (ap (λ (a : Option AppStyle). runs_domain state run a state.lattice state.domain) style ∙ ap (λ (l : Option LatticeStyle). runs_domain state run (Some asked) l state.domain) lattice
+    ∙ ap (λ (d : Option Domain). runs_domain state run (Some asked) (Some unit) d) box)
 
 -- a run that isn't refused ends in time
 abbrev NoneHolds : List (Option Cause) → Type 0
@@ -234,6 +250,7 @@ made_by domain none =
 
 pub run_free_of : (state : SessionState) (run : ℕ) (asked : AppStyle) (found : Domain) → state.app ≡ Some asked → state.domain ≡ Some found → run_cause state run ≡ None →
     IsFree (application_on state asked found) run found
+unfolding domain_cause
 run_free_of state run asked found style box none =
     let causes = none_holds (run_causes state run) none in
     let application : Application = application_on state asked found in
@@ -247,16 +264,16 @@ run_free_of state run asked found style box none =
     }
 
 -- what was prepared can run
-runnable_by : (state : SessionState) (asked : AppStyle) (found : Domain) (prepared : Prepared) (run : ℕ) → IsFor state run asked found prepared → IsFree (application_on state asked found) run found →
-    IsRunnable (rules_of prepared.application) prepared.plan.sweep found prepared.room
-runnable_by state asked found prepared run for_run free =
+runnable_by : (state : SessionState) (asked : AppStyle) (unit : LatticeStyle) (found : Domain) (prepared : Prepared) (run : ℕ) → IsFor state run asked unit found prepared → IsFree (application_on state asked found) run found →
+    IsRunnable (rules_of prepared.application) prepared.plan.sweep found state.dumps prepared.room
+runnable_by state asked unit found prepared run for_run free =
     rw for_run.application (record { fits = free.fits; valid = free.valid; room_for = for_run.room_for })
 
 pub runnable_for : (state : SessionState) (run : ℕ) (prepared : Prepared) → IsPrepared state run (Some prepared) → run_cause state run ≡ None →
-    IfSome state.domain (λ domain. IsRunnable (rules_of prepared.application) prepared.plan.sweep domain prepared.room)
+    IfSome state.domain (λ domain. IsRunnable (rules_of prepared.application) prepared.plan.sweep domain state.dumps prepared.room)
 runnable_for state run prepared is none =
     let made = prepared_for state run prepared is in
-    rw made.3 (runnable_by state made.0 made.1 prepared run made.4 (run_free_of state run made.0 made.1 made.2 made.3 none))
+    rw made.5 (runnable_by state made.0 made.1 made.2 prepared run made.6 (run_free_of state run made.0 made.2 made.3 made.5 none))
 
 -- where it has a sweep, the application has trials
 swept_by : (asked : Option SweepStyle) (style : Option AppStyle) (found : AppStyle) → style ≡ Some found → if_so (is_some asked && not (option_map_or has_sweep style true)) NoSweepForApp ≡ None → IfSome asked (λ _. IsTrue (has_sweep found))
@@ -272,14 +289,14 @@ trials_for state run prepared is none =
     let made = prepared_for state run prepared is in
     let causes = none_holds (run_causes state run) none in
     let lacking : if_so (lacks_sweep state) NoSweepForApp ≡ None = causes.1.1.1.1.1.1.0 in
-    let sweep : prepared.plan.sweep ≡ state.sweep = ap (λ (s : RunSettings). s.sweep) made.4.plan in
-    rw (sweep, made.4.trials) (swept_by state.sweep state.app made.0 made.2 lacking)
+    let sweep : prepared.plan.sweep ≡ state.sweep = ap (λ (s : RunSettings). s.sweep) made.6.plan in
+    rw (sweep, made.6.trials) (swept_by state.sweep state.app made.0 made.3 lacking)
 
 -- its plan starts when the box is
 pub starts_for : (state : SessionState) (run : ℕ) (prepared : Prepared) → IsPrepared state run (Some prepared) → IfSome state.domain (λ domain. prepared.plan.start ≡ domain.time)
 starts_for state run prepared is =
     let made = prepared_for state run prepared is in
-    rw made.3 (ap (λ (s : RunSettings). s.start) made.4.plan)
+    rw made.5 (ap (λ (s : RunSettings). s.start) made.6.plan)
 
 -- commands that neither run, nor print, nor read a file
 performs_other : (state : SessionState) (command : Command) → ((length : Dec) → command ≡ Run length → ⊥) → ((text : List ℕ) → command ≡ Print text → ⊥) → ((file : List ℕ) → command ≡ ReadSites file → ⊥) →

@@ -2,6 +2,10 @@ pub mod AddedRegions
 pub mod Areas
 pub mod CommandSteps
 pub mod DrawnValues
+pub mod DumpNames
+pub mod DumpSteps
+pub mod DumpTelling
+pub mod EnergyKinds
 pub mod Headline
 pub mod Loading
 pub mod Obeying
@@ -11,6 +15,7 @@ pub mod Ranks
 pub mod RunSteps
 pub mod Sessions
 pub mod SiteFileReads
+pub mod SnapshotWrites
 pub mod StreamLaws
 pub mod Tellers
 pub mod WholeRanks

@@ -15,7 +15,7 @@ use Rattle.spk_report.specs.Output.{IsTroubleOf, log_name, trouble_stop}
 use Rattle.spk_run.specs.declared.answer.Target.TheVariants.{Screen}
 use Rattle.spk_run.specs.Endings.{target_stop}
 use Rattle.spk_report.specs.Output.{logs, prints}
-use Rattle.spk_run.specs.Output.{log_target, prints_all, starts_log}
+use Rattle.spk_run.specs.Output.{log_target, starts_log}
 
 pub target_stop-screen : target_stop Screen ≡ WriteFailed ScreenPlace
 unfolding target_stop
@@ -76,15 +76,7 @@ pub log_not_started : (log : Option (List ℕ)) (name : List ℕ) (before now : 
 log_not_started log name before now fault is prefix cause =
     rw is (failed_starts _ before now name fault _ (target_stop-log (Some name) name refl) prefix cause)
 
--- a text for both, and texts in a row
+-- a text for both
 pub prints_is : (log : Option (List ℕ)) (text : List ℕ) → prints log text ≡ (writes (says text) >> logs log text)
 unfolding prints
 prints_is log text = refl
-
-pub prints_none : (log : Option (List ℕ)) → prints_all log [] ≡ answers tt
-unfolding prints_all
-prints_none log = refl
-
-pub prints_more : (log : Option (List ℕ)) (text : List ℕ) (texts : List (List ℕ)) → prints_all log (text ∷ texts) ≡ (prints log text >> prints_all log texts)
-unfolding prints_all
-prints_more log text texts = refl

@@ -1,5 +1,5 @@
 -- A run on one rank: its state is that of all ranks.
-use Rattle.std.proofs.Common.{None, ◌≡◌, ℕ, ◌+◌, ◌*◌, ◌%◌, ◌<◌, IsTrue, List, [], ◌∷◌, length, get_or, set, refl, sym, ap, ◌∙◌, arith, add-one, zero-add, get_or-set_same}
+use Rattle.std.proofs.Common.{◌≡◌, ℕ, ◌+◌, ◌*◌, ◌%◌, ◌<◌, IsTrue, List, [], ◌∷◌, length, get_or, set, refl, sym, ap, ◌∙◌, arith, add-one, zero-add, get_or-set_same}
 use Rattle.std.proofs.Math.Nat.{mod-one, mul-one}
 use Rattle.std.proofs.lemmas.List.{set-get_or}
 use Rattle.spk_lattice.specs.Layout.{Layout}
@@ -20,8 +20,7 @@ use Rattle.spk_sched.specs.Globals.{GlobalState, Kinetics, global_state, sector_
 use Rattle.spk_sched.proofs.OneRank.{one_rank_box}
 use Rattle.spk_run.specs.Ranks.{sector_at_rank}
 use Rattle.spk_run.specs.Running.{HasAllCells}
-use Rattle.spk_report.specs.Statistics.{statistics_text}
-use Rattle.spk_run.specs.Runs.{job, one_rank, domain_at, domain_after, mark_text, sweeps_after}
+use Rattle.spk_run.specs.Runs.{job, one_rank, domain_at, domain_after, sweeps_after}
 
 -- the state of all ranks where there is one
 abbrev pub of_one_rank : Domain → RankState → GlobalState
@@ -65,18 +64,19 @@ pub one_rank_started : (kinetics : Kinetics) (settings : RunSettings) (domain : 
     global_state (job kinetics settings domain) 0 ≡ of_one_rank domain (record { values = values; stream = stream; counts = counts })
 one_rank_started kinetics settings domain values stream counts values_are stream_is counts_are = rw (values_are, stream_is, counts_are) (one_rank_starts kinetics settings domain)
 
--- the text of a mark, by the state of the rank
-pub mark_text_is : (kinetics : Kinetics) (settings : RunSettings) (domain : Domain) (done : ℕ) (state : RankState) → settings.sectors ≡ 1 →
+-- the box at a mark, by the state of the rank
+pub domain_at_is : (kinetics : Kinetics) (settings : RunSettings) (domain : Domain) (done : ℕ) (state : RankState) → settings.sectors ≡ 1 →
     global_state (job kinetics settings domain) done ≡ of_one_rank domain state →
-    mark_text kinetics settings domain done
-    ≡ statistics_text (record {
+    domain_at kinetics settings domain done
+    ≡ record domain {
       time = domain.time + elapsed settings done;
+      values = state.values;
+      streams = set domain.streams 0 state.stream;
       counts = counts_sum domain.counts state.counts;
       sweeps = sweeps_after settings.sweep domain.sweeps (elapsed settings done);
-      energy = None;
-    })
+    }
 unfolding domain_at
-mark_text_is kinetics settings domain done state one is =
+domain_at_is kinetics settings domain done state one is =
     let at : done * settings.sectors ≡ done = rw one (mul-one done) in
     rw (at, is, zero-add state.counts.accepted, zero-add state.counts.rejected) refl
 

@@ -1,6 +1,6 @@
 -- The commands of the session: for which causes each is refused, and what it does. They are made after SPPARKS's commands; the
 -- causes and their order are our own.
-use Rattle.std.specs.Prelude.{ℕ, List, [], ◌∷◌, Option, Some, None, option_map, unsigned_abs, Result, Ok, Err}
+use Rattle.std.specs.Prelude.{ℕ, true, List, [], ◌∷◌, Option, Some, None, option_map, unsigned_abs, Result, Ok, Err}
 use Rattle.spk_cmds.specs.declared.command.Command.{Command}
 use Rattle.spk_cmds.specs.declared.command.Command.TheVariants as command
 use Rattle.spk_world.specs.Effects.{Effect, answers}
@@ -16,12 +16,14 @@ use Rattle.spk_run.specs.Commands.Region.{region_cause, with_region}
 use Rattle.spk_run.specs.Commands.CreateBox.{box_cause, box_of, with_box}
 use Rattle.spk_run.specs.Commands.CreateSites.{sites_cause, with_sites}
 use Rattle.spk_run.specs.Commands.Set.{set_cause, with_set}
+use Rattle.spk_run.specs.Commands.Dump.{dump_cause, new_dump, undump_cause, with_dump, without_dump}
 use Rattle.spk_run.specs.Commands.ReadSites.{read_cause, performs_read_sites}
 use Rattle.spk_run.specs.Commands.Run.{run_cause, performs_run}
 use Rattle.spk_run.specs.Commands.Print.{performs_print}
 pub mod CreateBox
 pub mod CreateSites
 pub mod Dimension
+pub mod Dump
 pub mod Lattice
 pub mod NotBuilt
 pub mod Print
@@ -42,6 +44,8 @@ state_cause state (command.CreateBox region) = box_cause state region
 state_cause state command.CreateSites = sites_cause state
 state_cause state (command.Set value fraction region) = set_cause state region
 state_cause state (command.ReadSites file) = read_cause state
+state_cause state (command.Dump name style delta file fields) = dump_cause state name
+state_cause state (command.Undump name) = undump_cause state name
 state_cause state (command.Run length) = run_cause state (ticks_of length)
 state_cause state other = None
 
@@ -63,6 +67,9 @@ set_by state (command.Solve style) = record state { solver = Some style }
 set_by state (command.Sweep style) = record state { sweep = Some style }
 set_by state (command.Temperature t) = record state { temperature = unsigned_abs t.millionths }
 set_by state (command.Stats delta) = record state { stats = ticks_of delta }
+set_by state command.DiagEnergy = record state { energy = true }
+set_by state (command.Dump name style delta file fields) = with_dump state (new_dump name style delta file fields)
+set_by state (command.Undump name) = without_dump state name
 set_by state (command.SetEcho style) = record state { echo = style }
 set_by state other = state
 

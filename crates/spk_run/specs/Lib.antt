@@ -3,7 +3,9 @@ pub mod Areas
 pub mod Causes
 pub mod Commands
 pub mod Drawing
+pub mod Dumps
 pub mod Endings
+pub mod Energies
 pub mod Faults
 pub mod Output
 pub mod Plain
@@ -12,6 +14,7 @@ pub mod Ranks
 pub mod Running
 pub mod Runs
 pub mod Scripts
+pub mod Snapshots
 pub mod Solvers
 pub mod States
 pub mod Streams

@@ -1,5 +1,5 @@
 -- What goes to the screen and to the log, and in which order.
-use Rattle.std.specs.Prelude.{ℕ, List, [], ◌∷◌, Option, Some, None, codes}
+use Rattle.std.specs.Prelude.{ℕ, Bool, if◌then◌else◌, List, Option, Some, None, codes}
 use Rattle.spk_world.specs.Outside.{says, adds, starts}
 use Rattle.spk_world.specs.Effects.{Effect, ◌>>◌, answers, writes}
 use Rattle.spk_report.specs.Output.{logs, prints}
@@ -13,17 +13,12 @@ abbrev pub log_target : Option (List ℕ) → Target
 log_target None = target.Screen
 log_target (Some name) = target.File name
 
--- the line above a run's statistics
-abbrev pub header_text : List ℕ
-header_text = codes "Time Naccept Nreject Nsweeps\n"
+-- the line above a run's statistics, with a column of energies or without
+abbrev pub header_text : Bool → List ℕ
+header_text with_energy = if with_energy then codes "Time Naccept Nreject Nsweeps Energy\n" else codes "Time Naccept Nreject Nsweeps\n"
 
 abbrev pub prints_then : Option (List ℕ) → List ℕ → Effect (Unit {0}) → Effect (Unit {0})
 prints_then log text rest = prints log text >> rest
-
--- one text after another
-unfoldable pub prints_all : Option (List ℕ) → List (List ℕ) → Effect (Unit {0})
-prints_all log [] = answers tt
-prints_all log (text ∷ texts) = prints log text >> prints_all log texts
 
 -- A command's lines are echoed as they stand in the script: all of them to the screen, and then all of them to the log.
 abbrev pub echoes : Echo → Option (List ℕ) → List ℕ → Effect (Unit {0})

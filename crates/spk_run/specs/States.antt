@@ -23,6 +23,8 @@ new_state options = record {
   sweep = None;
   temperature = 0;
   stats = 0;
+  energy = false;
+  dumps = [];
   echo = options.echo;
   log = options.log;
 }

@@ -3,16 +3,17 @@
 ghost use Rattle.std.specs.Prelude.{◌≡◌, ◌≤◌, IfSome, IsTrue};
 ghost use Rattle.spk_world.specs.Effects.{Wrote};
 ghost use Rattle.spk_run.specs.Applications.{application_of, has_sweep, has_trials, largest_value, rules_of, HasLargestValue};
-ghost use Rattle.spk_run.specs.Output.{prints_all};
-ghost use Rattle.spk_run.specs.Runs.{run_texts, domain_after};
-ghost use Rattle.spk_run.specs.Running.{IsRunnable};
+ghost use Rattle.spk_run.specs.Runs.{domain_after, dumps_after, tells_run};
+ghost use Rattle.spk_run.specs.Running.{IsRunnable, display_of};
 ghost use Rattle.spk_sched.specs.Globals.{kinetics_of};
 ghost use Rattle.spk_run.specs.Solvers.{rule_of, style_of};
 ghost use Rattle.spk_run.specs.Endings.{target_stop};
 
 use crate::domain::Domain;
+use crate::dumps::Dumps;
 use crate::run::run;
-use crate::running::{Finished, RunRoom};
+use crate::run_room::RunRoom;
+use crate::running::Finished;
 use spk_app::App;
 use spk_cmds::AppStyle;
 use spk_diffusion::Diffusion;
@@ -101,28 +102,30 @@ impl AnyApplication {
     pub fn run<W: World>(
         self,
         domain: Domain,
+        dumps: Dumps,
         plan: &Plan,
         room: RunRoom,
         world: &mut W,
     ) -> Finished
         requires one_sector { plan.now.sectors ≡ 1 }
         requires sweeps { IfSome plan.now.sweep (λ _. IsTrue (has_trials self)) }
-        requires runnable { IsRunnable (rules_of self) plan.now.sweep domain room }
+        requires runnable { IsRunnable (rules_of self) plan.now.sweep domain dumps room }
         requires start { plan.now.start ≡ domain.time }
         ensures domain { result.domain ≡ domain_after (kinetics_of (rules_of self) (rule_of (style_of room.solver))) plan.now domain }
+        ensures dumps { result.dumps ≡ dumps_after plan.now domain dumps }
         ensures wrote { Wrote target_stop (W.state world.old) (W.state world.new)
-            (prints_all room.output.log (run_texts (kinetics_of (rules_of self) (rule_of (style_of room.solver))) plan.now domain)) result.written }
+            (tells_run (display_of room.output.log room.with_energy room.writer) (kinetics_of (rules_of self) (rule_of (style_of room.solver))) plan.now domain dumps) result.written }
     {
         let blank = Blank::new(1);
         match self {
             AnyApplication::Ising(app) => run::<W, Ising, Brand>(
-                &app, domain, plan, room, blank, world,
+                &app, domain, dumps, plan, room, blank, world,
             ),
             AnyApplication::Potts(app) => run::<W, Potts, Brand>(
-                &app, domain, plan, room, blank, world,
+                &app, domain, dumps, plan, room, blank, world,
             ),
             AnyApplication::Diffusion(app) => {
-                run::<W, Diffusion, Brand>(&app, domain, plan, room, blank, world)
+                run::<W, Diffusion, Brand>(&app, domain, dumps, plan, room, blank, world)
             }
         }
     }

@@ -10,6 +10,7 @@ ghost use Rattle.spk_run.specs.Faults.{fault_stop, verdict, trouble_of, Leaves, 
 
 use crate::cause::Cause;
 use crate::fault::Fault;
+use crate::scale::Scale;
 use crate::seed::Seed;
 use crate::state::{LatticeStyle, SessionState, ticks_of};
 use spk_cmds::Command;
@@ -19,6 +20,7 @@ use std::alloc::{AllocError, Global};
 mod create_box;
 mod create_sites;
 mod dimension;
+mod dump;
 mod lattice;
 mod not_built;
 mod print;
@@ -27,6 +29,7 @@ mod region;
 mod run;
 mod seed;
 mod set;
+mod undump;
 
 use not_built::unbuilt_word;
 
@@ -55,6 +58,8 @@ impl SessionState {
             Command::CreateSites => Ok(self.sites_cause()),
             Command::Set { region, .. } => self.set_cause(alloc, region),
             Command::ReadSites { .. } => Ok(self.read_cause()),
+            Command::Dump { name, .. } => self.dump_cause(alloc, name),
+            Command::Undump { name } => self.undump_cause(alloc, name),
             Command::Run { length } => Ok(self.run_cause(alloc, ticks_of(*length))),
             _ => Ok(None),
         }
@@ -86,7 +91,7 @@ impl SessionState {
             Command::Lattice { style, scale } => {
                 self.lattice = Some(LatticeStyle {
                     style: *style,
-                    scale: *scale,
+                    scale: Scale::new(*scale),
                 });
             }
             Command::Region { name, shape } => self.add_region(alloc, name, shape)?,
@@ -101,6 +106,15 @@ impl SessionState {
             Command::Sweep { style } => self.sweep = Some(*style),
             Command::Temperature { t } => self.temperature = t.millionths.unsigned_abs(),
             Command::Stats { delta } => self.stats = ticks_of(*delta),
+            Command::DiagEnergy => self.energy = true,
+            Command::Dump {
+                name,
+                style,
+                delta,
+                file,
+                fields,
+            } => self.add_dump(alloc, name, *style, *delta, file, fields)?,
+            Command::Undump { name } => self.remove_dump(name),
             Command::SetEcho { echo } => self.echo = *echo,
             _ => {}
         }

@@ -5,6 +5,8 @@ ghost use Rattle.spk_cmds.specs.WellFormed.{IsUpTo};
 ghost use Rattle.spk_run.specs.States.{new_state, ticks_of, are_made, has_sites};
 
 use crate::domain::Domain;
+use crate::dumps::Dumps;
+use crate::scale::Scale;
 use crate::seed::Seed;
 use spk_cmds::{AppStyle, Echo, Options, SolveStyle};
 use spk_lattice::Regions;
@@ -18,7 +20,7 @@ use std::alloc::{AllocError, Global};
 #[derive(Clone, Copy, Debug)]
 pub struct LatticeStyle {
     pub style: Style,
-    pub scale: Dec,
+    pub scale: Scale,
 }
 
 /// What the commands so far have set.
@@ -40,6 +42,9 @@ pub struct SessionState {
     pub temperature: u64,
     /// Ticks from one line of statistics to the next, and 0 where only the first and the last are written.
     pub stats: u64,
+    /// Whether lines of statistics have the energy of all sites.
+    pub energy: bool,
+    pub dumps: Dumps,
     pub echo: Echo,
     /// The name of the log, where there is one.
     pub log: Option<Text>,
@@ -87,6 +92,8 @@ impl SessionState {
             sweep: None,
             temperature: 0,
             stats: 0,
+            energy: false,
+            dumps: Dumps::new(alloc),
             echo: options.echo,
             log,
         })

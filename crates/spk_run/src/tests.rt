@@ -252,6 +252,47 @@ fn keeps_the_values_for_a_bad_site_file(rt: HostRuntime) -> Result<(), TestFaile
     Ok(())
 }
 
+/// The second snapshot of ten sites with the value 1.
+const SNAPSHOT: &str =
+    "spk sites at time 2.000000000\n\n10 sites\n\nValues\n\n1 1\n2 1\n3 1\n4 1\n5 1\n6 1\n7 1\n8 1\n9 1\n10 1\n";
+
+/// A dump writes a file for each snapshot, until it is ended.
+#[test]
+fn writes_snapshots(rt: HostRuntime) -> Result<(), TestFailed> {
+    let mut bench = Bench::new(rt.alloc())?;
+    bench.obey_all(&rt, &SITES)?;
+    bench.obey_all(&rt, &["dump 1 sites 2.0 d.*", "run 2", "undump 1", "run 2"])?;
+    let last = bench.world.files.get("d.1").ok_or("a snapshot")?;
+    assert!(rt; last.as_slice() == SNAPSHOT.as_bytes());
+    assert!(rt; bench.world.files.get("d.2").is_none());
+    Ok(())
+}
+
+/// A snapshot comes after the line of its moment; the third call after the header's two starts its file.
+#[test]
+fn names_the_snapshot_that_failed(rt: HostRuntime) -> Result<(), TestFailed> {
+    let mut bench = Bench::new(rt.alloc())?;
+    bench.obey_all(&rt, &SITES)?;
+    bench.obey_all(&rt, &["dump 1 sites 2.0 d.*"])?;
+    fails_at(&mut bench, 5, 0)?;
+    let failed = bench.obey("run 2")?;
+    let name = file_of(failed).ok_or("a file")?;
+    assert!(rt; name.as_str() == "d.0");
+    bench.expect(&rt, "Time Naccept Nreject Nsweeps\n0.000000000 0 0 0\n");
+    Ok(())
+}
+
+#[test]
+fn refuses_dumps(rt: HostRuntime) -> Result<(), TestFailed> {
+    let mut bench = Bench::new(rt.alloc())?;
+    bench.obey_all(&rt, &["dump one text 1.0 a"])?;
+    let refused = bench.obey("dump one sites 1.0 b")?;
+    assert!(rt; matches!(refused, Err(Trouble::Refused(Cause::DumpTwice(_)))));
+    let refused = bench.obey("undump two")?;
+    assert!(rt; matches!(refused, Err(Trouble::Refused(Cause::NoSuchDump(_)))));
+    Ok(())
+}
+
 /// The word with which a command is refused as not built.
 fn unbuilt_word(refused: Result<(), Trouble>) -> Option<Text> {
     match refused {
@@ -263,9 +304,10 @@ fn unbuilt_word(refused: Result<(), Trouble>) -> Option<Text> {
 #[test]
 fn refuses_what_is_not_built(rt: HostRuntime) -> Result<(), TestFailed> {
     let mut bench = Bench::new(rt.alloc())?;
-    let refused = bench.session.obey(&Command::DiagEnergy, &mut bench.world);
+    let ranks = [1; 3];
+    let refused = (bench.session).obey(&Command::Processors { ranks }, &mut bench.world);
     let word = unbuilt_word(refused).ok_or("a word")?;
-    assert!(rt; word.as_str() == "diag_style");
+    assert!(rt; word.as_str() == "processors");
     bench.expect(&rt, "");
     Ok(())
 }

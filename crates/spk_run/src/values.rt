@@ -24,6 +24,17 @@ impl Model for Values {
     ghost invariant = { λ v. vec_len v.items ≤ 4194304 };
 }
 
+/// Takes the values of a patch that has all cells.
+pub fn copy_values(values: &mut Vec<u32>, patch: &Patch)
+    requires { length values.old.items ≡ length patch.now.values }
+    ensures items { values.new.items ≡ patch.now.values }
+    ensures len { vec_len values.new ≡ vec_len values.old }
+{
+    for place in 0..values.len() {
+        values[place] = patch.value(place);
+    }
+}
+
 impl Values {
     /// No sites.
     pub fn new(alloc: Global) -> Values
@@ -96,9 +107,7 @@ impl Values {
         requires { length self.old ≡ length patch.now.values }
         ensures { self.new ≡ patch.now.values }
     {
-        for place in 0..self.len() {
-            self.set(place, patch.value(place));
-        }
+        copy_values(&mut self.items, patch);
     }
 }
 

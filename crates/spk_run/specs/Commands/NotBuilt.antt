@@ -4,7 +4,7 @@ use Rattle.std.specs.Prelude.{ℕ, Bool, if◌then◌else◌, List, codes, Optio
 use Rattle.std.specs.List.{list_any}
 use Rattle.spk_num.specs.declared.sweep.Sweep.TheVariants.{Color}
 use Rattle.spk_cmds.specs.declared.command.Command.{Command}
-use Rattle.spk_cmds.specs.declared.command.Command.TheVariants.{Boundary, Processors, WriteRestart, ReadRestart, Sector, Sweep, DiagEnergy, Dump, Undump}
+use Rattle.spk_cmds.specs.declared.command.Command.TheVariants.{Boundary, Processors, WriteRestart, ReadRestart, Sector, Sweep}
 
 abbrev pub word_if : Bool → List ℕ → Option (List ℕ)
 word_if unbuilt word = if unbuilt then Some word else None
@@ -17,7 +17,4 @@ unbuilt_word (WriteRestart file) = Some (codes "write_restart")
 unbuilt_word (ReadRestart file) = Some (codes "read_restart")
 unbuilt_word (Sector divided tstop nstop) = Some (codes "sector")
 unbuilt_word (Sweep Color) = Some (codes "color")
-unbuilt_word DiagEnergy = Some (codes "diag_style")
-unbuilt_word (Dump name style delta file fields) = Some (codes "dump")
-unbuilt_word (Undump name) = Some (codes "undump")
 unbuilt_word command = None

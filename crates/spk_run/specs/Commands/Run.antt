@@ -1,5 +1,5 @@
 -- `run`: it is refused for the first cause that holds, and else runs the sites of the box.
-use Rattle.std.specs.Prelude.{ℕ, ◌+◌, Bool, true, not, ◌&&◌, ◌||◌, List, [], ◌∷◌, Option, Some, None, is_some, unwrap_or, option_and_then, Result, Ok}
+use Rattle.std.specs.Prelude.{ℕ, ◌+◌, Bool, true, not, ◌&&◌, ◌||◌, List, [], ◌∷◌, map, Option, Some, None, is_some, unwrap_or, option_and_then, Result, Ok}
 use Rattle.std.specs.Option.{option_map, option_map_or}
 use Rattle.std.specs.List.{position}
 use Rattle.spk_world.specs.Effects.{Effect, ◌>>=◌, answers}
@@ -8,6 +8,7 @@ use Rattle.spk_run.specs.declared.cause.Cause.TheVariants.{NoApp, NoLattice, NoB
 use Rattle.spk_run.specs.declared.domain.Domain.{Domain}
 use Rattle.spk_sched.specs.declared.run_settings.Cycle.TheVariants.{Nstop}
 use Rattle.spk_sched.specs.declared.run_settings.RunSettings.{RunSettings}
+use Rattle.spk_run.specs.declared.state.LatticeStyle.{LatticeStyle}
 use Rattle.spk_run.specs.declared.state.SessionState.{SessionState}
 use Rattle.spk_app.specs.Applications.{Application}
 use Rattle.spk_cmds.specs.declared.command.AppStyle.{AppStyle}
@@ -17,8 +18,10 @@ use Rattle.spk_run.specs.Applications.{application_of, has_sweep}
 use Rattle.spk_sched.specs.Plans.{plan_fault}
 use Rattle.spk_sched.specs.Globals.{Kinetics, kinetics_of}
 use Rattle.spk_run.specs.Causes.{plan_cause}
+use Rattle.spk_run.specs.Dumps.{due_of}
+use Rattle.spk_run.specs.Energies.{energy_kind}
 use Rattle.spk_run.specs.Solvers.{rule_of}
-use Rattle.spk_run.specs.Runs.{runs}
+use Rattle.spk_run.specs.Runs.{Display, RunEnd, runs}
 use Rattle.spk_run.specs.States.{first_of, if_so, missing, are_made}
 
 -- the application of a session on a box
@@ -35,7 +38,7 @@ settings_of state length application domain = record {
   sectors = 1;
   sweep = state.sweep;
   stats = state.stats;
-  dumps = [];
+  dumps = map (due_of domain.time) state.dumps;
 }
 
 -- A run without a solver has a sweep, or is refused.
@@ -49,7 +52,7 @@ kinetics_in state style domain = kinetics_of (application_on state style domain)
 abbrev pub bad_value : Application → List ℕ → Option Cause
 bad_value application values = option_map (λ place. BadValueForApp (place + 1)) (position (λ value. not (application.is_valid value)) values)
 
-abbrev pub domain_cause : SessionState → ℕ → Application → Domain → Option Cause
+unfoldable pub domain_cause : SessionState → ℕ → Application → Domain → Option Cause
 domain_cause state length application domain =
     first_of (bad_value application domain.values ∷ option_and_then plan_cause (plan_fault (settings_of state length application domain)) ∷ [])
 
@@ -76,20 +79,24 @@ run_causes state length =
 abbrev pub run_cause : SessionState → ℕ → Option Cause
 run_cause state length = first_of (run_causes state length)
 
-abbrev pub with_domain : SessionState → Domain → SessionState
-with_domain state domain = record state { domain = Some domain }
+-- how a run is shown
+abbrev pub display_in : SessionState → AppStyle → LatticeStyle → Display
+display_in state style lattice = record { log = state.log; with_energy = state.energy; scale = lattice.scale; energy = energy_kind style }
 
-abbrev pub runs_by : SessionState → Kinetics → RunSettings → Domain → Effect (Result SessionState Cause)
-runs_by state kinetics settings domain = runs state.log kinetics settings domain >>= λ after. answers (Ok (with_domain state after))
+abbrev pub with_run : SessionState → RunEnd → SessionState
+with_run state end = record state { domain = Some end.domain; dumps = end.dumps }
 
-abbrev pub runs_domain_by : SessionState → Kinetics → RunSettings → Option Domain → Effect (Result SessionState Cause)
-runs_domain_by state kinetics settings None = answers (Ok state)
-runs_domain_by state kinetics settings (Some domain) = runs_by state kinetics settings domain
+abbrev pub runs_by : SessionState → Display → Kinetics → RunSettings → Domain → Effect (Result SessionState Cause)
+runs_by state display kinetics settings domain = runs display kinetics settings domain state.dumps >>= λ end. answers (Ok (with_run state end))
 
-abbrev pub runs_domain : SessionState → ℕ → Option AppStyle → Option Domain → Effect (Result SessionState Cause)
-runs_domain state length (Some style) (Some domain) =
-    runs_by state (kinetics_in state style domain) (settings_of state length (application_on state style domain) domain) domain
-runs_domain state length style domain = answers (Ok state)
+abbrev pub runs_domain_by : SessionState → Display → Kinetics → RunSettings → Option Domain → Effect (Result SessionState Cause)
+runs_domain_by state display kinetics settings None = answers (Ok state)
+runs_domain_by state display kinetics settings (Some domain) = runs_by state display kinetics settings domain
+
+abbrev pub runs_domain : SessionState → ℕ → Option AppStyle → Option LatticeStyle → Option Domain → Effect (Result SessionState Cause)
+runs_domain state length (Some style) (Some lattice) (Some domain) =
+    runs_by state (display_in state style lattice) (kinetics_in state style domain) (settings_of state length (application_on state style domain) domain) domain
+runs_domain state length style lattice domain = answers (Ok state)
 
 abbrev pub performs_run : SessionState → ℕ → Effect (Result SessionState Cause)
-performs_run state length = runs_domain state length state.app state.domain
+performs_run state length = runs_domain state length state.app state.lattice state.domain

@@ -40,9 +40,6 @@ pub fn unbuilt_word(alloc: Global, command: &Command) -> Result<Option<Text>, Al
         Command::Sweep {
             style: Sweep::Color,
         } => word_if(alloc, true, "color"),
-        Command::DiagEnergy => word_if(alloc, true, "diag_style"),
-        Command::Dump { .. } => word_if(alloc, true, "dump"),
-        Command::Undump { .. } => word_if(alloc, true, "undump"),
         Command::Seed { .. }
         | Command::App { .. }
         | Command::Dimension { .. }
@@ -56,6 +53,9 @@ pub fn unbuilt_word(alloc: Global, command: &Command) -> Result<Option<Text>, Al
         | Command::Solve { .. }
         | Command::Sweep { .. }
         | Command::Stats { .. }
+        | Command::DiagEnergy
+        | Command::Dump { .. }
+        | Command::Undump { .. }
         | Command::Run { .. }
         | Command::Print { .. }
         | Command::SetEcho { .. } => Ok(None),

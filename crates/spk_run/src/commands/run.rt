@@ -1,27 +1,34 @@
 //! `run`: it is refused for the first cause that holds, and else runs the sites of the box.
 
-ghost use Rattle.std.specs.Prelude.{◌≡◌, ◌≤◌, ◌+◌, ◌^◌, ◌<◌, None, IfOk, IfSome, IsTrue};
+ghost use Rattle.std.specs.Prelude.{◌≡◌, ◌≤◌, ◌+◌, ◌^◌, ◌<◌, All, None, IfOk, IfSome, IsTrue};
 ghost use Rattle.spk_world.specs.Effects.{Wrote};
 ghost use Rattle.spk_run.specs.Applications.{application_of, has_sweep, has_trials, rules_of};
 ghost use Rattle.spk_run.specs.Causes.{IsOfState};
-ghost use Rattle.spk_run.specs.Commands.Run.{settings_of, bad_value, domain_cause, run_cause, runs_domain_by, performs_run};
-ghost use Rattle.spk_run.specs.Prepared.{IsPrepared, kinetics_for};
+ghost use Rattle.spk_run.specs.Commands.Run.{display_in, settings_of, solver_of, bad_value, domain_cause, run_cause, runs_domain_by, performs_run};
+ghost use Rattle.spk_run.specs.Prepared.{IsPrepared, display_for, kinetics_for};
 ghost use Rattle.spk_sched.specs.Plans.{IsRun};
-ghost use Rattle.spk_run.specs.Running.{IsRunnable};
+ghost use Rattle.spk_run.specs.Running.{HasRoomFor, IsRunnable, display_of};
+ghost use Rattle.spk_run.specs.Solvers.{style_of};
 ghost use Rattle.spk_run.specs.Faults.{fault_stop, done_to, LeavesDone, WritesAfterMemory};
 
 use crate::application::{AnyApplication, has_sweep};
 use crate::cause::Cause;
 use crate::domain::Domain;
+use crate::dumps::Dumps;
+use crate::energy::energy_kind;
 use crate::fault::Fault;
 use crate::output::Output;
-use crate::running::{Finished, RunRoom};
-use crate::state::SessionState;
+use crate::run_room::RunRoom;
+use crate::running::Finished;
+use crate::snapshot_writer::SnapshotWriter;
+use crate::state::{LatticeStyle, SessionState};
 use crate::values::Values;
 use spk_cmds::{AppStyle, SolveStyle};
+use spk_num::sweep::Sweep;
 use spk_sched::{Cycle, Dues, Plan, RunSettings};
 use spk_world::World;
 use std::alloc::{AllocError, Global};
+use std::mem;
 
 /// What is made for a run before its first write.
 #[derive(Debug, Drop)]
@@ -51,16 +58,17 @@ impl SessionState {
         AnyApplication::of(style, &domain.lattice, self.temperature)
     }
 
-    /// The settings of a run of a box for so many ticks. They take no memory.
+    /// The settings of a run of a box for so many ticks, where snapshots are due at these times.
     fn settings(
         &self,
-        alloc: Global,
         length: u64,
         application: &AnyApplication,
         domain: &Domain,
+        dumps: Dues,
     ) -> RunSettings
-        requires { length ≤ 4000000000000000000 }
-        ensures settings { result ≡ settings_of self.now length (rules_of application.now) domain.now }
+        requires short { length ≤ 4000000000000000000 }
+        requires some { All (λ due. 1 ≤ due.delta) dumps }
+        ensures settings { result ≡ record (settings_of self.now length (rules_of application.now) domain.now) { dumps = dumps } }
         ensures run { IsRun result }
     {
         RunSettings {
@@ -71,11 +79,12 @@ impl SessionState {
             sectors: 1,
             sweep: self.sweep,
             stats: self.stats,
-            dumps: Dues::from_vec(Vec::new(alloc)),
+            dumps,
         }
     }
 
     /// Why an application can't run on a box for so many ticks.
+    #[tactic(auto, unfolding(crate::specs::Commands::Run::domain_cause))]
     fn domain_cause(
         &self,
         alloc: Global,
@@ -90,7 +99,9 @@ impl SessionState {
         match bad_value(application, &domain.values) {
             Some(cause) => Some(cause),
             None => {
-                let settings = self.settings(alloc, length, application, domain);
+                // No run is refused for the times of its snapshots.
+                let none = Dues::from_vec(Vec::new(alloc));
+                let settings = self.settings(length, application, domain, none);
                 Cause::of_plan(settings.fault()?)
             }
         }
@@ -126,25 +137,71 @@ impl SessionState {
         self.domain_cause(alloc, length, &self.application(style, domain), domain)
     }
 
-    /// What a run of the box for so many ticks needs, where there is an application and a box.
+    /// The plan of a run of a box for so many ticks. No run is refused for it here, so there is one or memory is out.
+    fn plan(
+        &self,
+        alloc: Global,
+        length: u64,
+        application: &AnyApplication,
+        domain: &Domain,
+    ) -> Result<Plan, AllocError>
+        requires { length ≤ 4000000000000000000 }
+        ensures { IfOk result (λ plan. plan ≡ settings_of self.now length (rules_of application.now) domain.now) }
+    {
+        let dues = self.dumps.dues(alloc, domain.time)?;
+        let settings = self.settings(length, application, domain, dues);
+        Plan::new(alloc, &settings).map_err(|_| AllocError)
+    }
+
+    /// The room for a run of a box.
+    fn room(
+        &self,
+        alloc: Global,
+        style: AppStyle,
+        lattice: &LatticeStyle,
+        domain: &Domain,
+        sweep: Option<Sweep>,
+    ) -> Result<RunRoom, AllocError>
+        ensures room { IfOk result (HasRoomFor domain.now self.now.dumps sweep) }
+        ensures solver { IfOk result (λ room. style_of room.solver ≡ solver_of self.now) }
+        ensures display { IfOk result (λ room. display_of room.output.log room.with_energy room.writer ≡ display_in self.now style lattice.now) }
+    {
+        let output = Output::new(alloc, &self.log)?;
+        let writer = SnapshotWriter::new(
+            alloc,
+            &domain.lattice,
+            lattice.scale,
+            energy_kind(style),
+            &self.dumps,
+        )?;
+        RunRoom::new(
+            alloc,
+            domain,
+            self.solver.unwrap_or(SolveStyle::Linear),
+            sweep,
+            output,
+            self.energy,
+            writer,
+        )
+    }
+
+    /// What a run of the box for so many ticks needs, where there is an application, a lattice and a box.
     fn prepared(&self, alloc: Global, length: u64) -> Result<Option<Prepared>, AllocError>
-        requires short { length ≤ 4000000000000000000 }
-        requires free { run_cause self.now length ≡ None }
+        requires { length ≤ 4000000000000000000 }
         ensures { IfOk result (IsPrepared self.now length) }
     {
         let Some(style) = self.app else {
+            return Ok(None);
+        };
+        let Some(lattice) = &self.lattice else {
             return Ok(None);
         };
         let Some(domain) = &self.domain else {
             return Ok(None);
         };
         let application = self.application(style, domain);
-        let settings = self.settings(alloc, length, &application, domain);
-        // No run is refused for its plan here, so there is one or memory is out.
-        let plan = Plan::new(alloc, &settings).map_err(|_| AllocError)?;
-        let output = Output::new(alloc, &self.log)?;
-        let solver = self.solver.unwrap_or(SolveStyle::Linear);
-        let room = RunRoom::new(alloc, domain, solver, plan.sweep(), output)?;
+        let plan = self.plan(alloc, length, &application, domain)?;
+        let room = self.room(alloc, style, lattice, domain, plan.sweep())?;
         Ok(Some(Prepared {
             application,
             plan,
@@ -153,15 +210,19 @@ impl SessionState {
     }
 
     /// Runs the box with what is prepared. A write that fails ends the writing, and not the run.
-    fn run_with<W: World>(&mut self, prepared: Prepared, world: &mut W) -> Result<(), Fault>
+    fn run_with<W: World>(
+        &mut self,
+        alloc: Global,
+        prepared: Prepared,
+        world: &mut W,
+    ) -> Result<(), Fault>
         requires one_sector { prepared.plan.sectors ≡ 1 }
         requires sweeps { IfSome prepared.plan.sweep (λ _. IsTrue (has_trials prepared.application)) }
-        requires runnable { IfSome self.old.domain (λ domain. IsRunnable (rules_of prepared.application) prepared.plan.sweep domain prepared.room) }
+        requires runnable { IfSome self.old.domain (λ domain. IsRunnable (rules_of prepared.application) prepared.plan.sweep domain self.old.dumps prepared.room) }
         requires start { IfSome self.old.domain (λ domain. prepared.plan.start ≡ domain.time) }
-        requires log { prepared.room.output.log ≡ self.old.log }
-        ensures wrote { Wrote fault_stop (W.state world.old) (W.state world.new) (runs_domain_by self.old (kinetics_for prepared) prepared.plan self.old.domain) (done_to self.new result) }
+        ensures wrote { Wrote fault_stop (W.state world.old) (W.state world.new) (runs_domain_by self.old (display_for prepared) (kinetics_for prepared) prepared.plan self.old.domain) (done_to self.new result) }
         ensures memory { WritesAfterMemory (W.state world.old).told (W.state world.new).told result }
-        ensures session { LeavesDone (W.state world.old).told (runs_domain_by self.old (kinetics_for prepared) prepared.plan self.old.domain) self.old self.new result }
+        ensures session { LeavesDone (W.state world.old).told (runs_domain_by self.old (display_for prepared) (kinetics_for prepared) prepared.plan self.old.domain) self.old self.new result }
     {
         let Some(domain) = self.domain.take() else {
             return Ok(());
@@ -171,8 +232,14 @@ impl SessionState {
             plan,
             room,
         } = prepared;
-        let Finished { domain, written } = application.run(domain, &plan, room, world);
+        let dumps = mem::replace(&mut self.dumps, Dumps::new(alloc));
+        let Finished {
+            domain,
+            dumps,
+            written,
+        } = application.run(domain, dumps, &plan, room, world);
         self.domain = Some(domain);
+        self.dumps = dumps;
         written?;
         Ok(())
     }
@@ -188,6 +255,6 @@ impl SessionState {
         let Some(prepared) = self.prepared(alloc, length)? else {
             return Ok(());
         };
-        self.run_with(prepared, world)
+        self.run_with(alloc, prepared, world)
     }
 }

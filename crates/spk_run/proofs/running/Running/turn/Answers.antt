@@ -1,7 +1,7 @@
 use Rattle.std.proofs.Common.{refl, sym, ap, ◌∙◌}
 use Rattle.spk_patch.specs.Patches.{PatchSites, place_count}
 use Rattle.spk_sched.specs.Globals.{kinetics_of}
-use Rattle.spk_run.proofs.RunSteps.{has_turned, sweeps_go, sweeps_stay}
+use Rattle.spk_run.proofs.RunSteps.{has_turned, sweeps_go, sweeps_stay, turned_shows}
 use Rattle.spk_run.proofs.WholeRanks.{all_cells_with}
 use Rattle.spk_run.proofs.running.Running.turn.Goals as goal
 
@@ -9,6 +9,7 @@ pub returns-in-Some-clause-ready : goal.returns-in-Some-clause-ready
 returns-in-Some-clause-ready g c = record {
   kept = c.turn.ensures.kept;
   values = c.requires.ready.values ∙ sym (ap (λ (p : PatchSites). place_count p) c.turn.ensures.patch);
+  show = turned_shows c.args.self.now _ _ _ c.turn.ensures.patch c.requires.ready.show;
 }
 
 pub returns-in-Some-clause-done : goal.returns-in-Some-clause-done
@@ -22,7 +23,6 @@ returns-in-Some-clause-done g c = λ rule settings domain done one whole same wi
       cells = c.turn.ensures.cells ∙ has.keeps.cells;
       on = has.keeps.on;
       some_stream = has.keeps.some_stream;
-      report = has.keeps.report;
     })
     refl
     (c.saturating_add-self.ensures ∙ sweeps_go settings c.in-Some.field-0 done domain.sweeps c.args.self.now.sweeps c.args.ticks one (same ∙ c.in-Some.is) whole window_is has.sweeps)
@@ -32,6 +32,7 @@ pub returns-in_default-clause-ready : goal.returns-in_default-clause-ready
 returns-in_default-clause-ready g c = record {
   kept = c.turn.ensures.kept;
   values = c.requires.ready.values ∙ sym (ap (λ (p : PatchSites). place_count p) c.turn.ensures.patch);
+  show = turned_shows c.args.self.now _ _ _ c.turn.ensures.patch c.requires.ready.show;
 }
 
 pub returns-in_default-clause-done : goal.returns-in_default-clause-done
@@ -45,7 +46,6 @@ returns-in_default-clause-done g c = λ rule settings domain done one whole same
       cells = c.turn.ensures.cells ∙ has.keeps.cells;
       on = has.keeps.on;
       some_stream = has.keeps.some_stream;
-      report = has.keeps.report;
     })
     refl
     (sweeps_stay settings done domain.sweeps c.args.self.now.sweeps (same ∙ c.in_default.is) has.sweeps)
