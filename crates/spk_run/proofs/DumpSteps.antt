@@ -1,9 +1,7 @@
 -- Dumps that have all come one step further, one dump after another.
-use Rattle.std.proofs.Common.{◌≡◌, ℕ, ◌+◌, ◌<◌, ◌≤◌, List, [], ◌∷◌, ◌++◌, length, map, set, take, get_or, inl, inr, refl, sym, ap, subst, ◌∙◌, arith}
-use Rattle.std.specs.List.{All}
+use Rattle.std.proofs.Common.{◌≡◌, ℕ, ◌+◌, ◌<◌, ◌≤◌, List, [], ◌∷◌, ◌++◌, length, map, set, take, get_or, inl, inr, refl, sym, ap, ◌∙◌, arith}
 use Rattle.std.proofs.lemmas.Bool.{cases_lt}
 use Rattle.std.proofs.lemmas.List.{ext_get_or, get_or_default, get_or-map, get_or-set_other, get_or-set_same, length-map, length-set, map-append, take_more}
-use Rattle.std.proofs.lemmas.List.Elements.{All-push}
 use Rattle.spk_run.specs.declared.dump.DumpState.{DumpState}
 use Rattle.spk_run.specs.Dumps.{due_of}
 use Rattle.spk_sched.specs.declared.dues.Due.{Due}

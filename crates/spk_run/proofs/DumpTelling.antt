@@ -1,6 +1,5 @@
 -- Snapshots of all dumps, one dump after another.
-use Rattle.std.proofs.Common.{◌≡◌, ℕ, Option, ◌+◌, ◌<◌, ◌≤◌, true, false, List, [], ◌∷◌, ◌++◌, length, take, get_or, flat_map, map, inl, inr, refl, sym, ap, subst, ◌∙◌, arith, vec_capacity}
-use Rattle.std.specs.List.{All, list_any}
+use Rattle.std.proofs.Common.{◌≡◌, ℕ, Option, ◌+◌, ◌<◌, ◌≤◌, true, false, List, [], ◌∷◌, ◌++◌, length, take, get_or, flat_map, map, inl, inr, refl, sym, ap, subst, ◌∙◌, arith}
 use Rattle.std.proofs.lemmas.Bool.{cases_Bool}
 use Rattle.std.proofs.lemmas.Grind.{flat_map-append}
 use Rattle.std.proofs.lemmas.List.{append-nil, take_all, take_more}
@@ -8,8 +7,6 @@ use Rattle.std.proofs.lemmas.List.Elements.{All-nil, All-cons, All-head, All-tai
 use Rattle.spk_world.specs.Outside.{Event}
 use Rattle.spk_world.specs.Effects.{answers, writes}
 use Rattle.spk_world.specs.States.{WorldState}
-use Rattle.spk_lattice.specs.Layout.{sites_of}
-use Rattle.spk_cmds.specs.declared.command.DumpStyle.{DumpStyle}
 use Rattle.spk_run.specs.declared.dump.DumpState.{DumpState}
 use Rattle.spk_run.specs.declared.snapshot_writer.SnapshotWriter.{SnapshotWriter}
 use Rattle.spk_run.specs.Dumps.{Scene, dump_events, dumps_events, has_sites_dump, is_any_due, is_due, is_of_sites, passed, snapshot_events, started}

@@ -1,6 +1,7 @@
 -- What snapshots show as the energy of a site is its energy by the rules of its application.
-use Rattle.std.proofs.Common.{◌≡◌, ℕ, ◌+◌, ◌-◌, ◌≤◌, Bool, true, false, ◌&&◌, ◌==◌, not, if◌then◌else◌, List, [], ◌∷◌, map, count_by, inl, inr, refl, sym, ap, ◌∙◌, arith}
-use Rattle.std.specs.Prelude.{slice_index}
+use Rattle.std.proofs.Common.{◌≡◌, ℕ, suc, ◌+◌, ◌-◌, ◌≤◌, Bool, true, false, ◌&&◌, ◌==◌, not, if◌then◌else◌, List, [], ◌∷◌, map, count_by, inl, inr, refl, sym, ap, ◌∙◌, arith}
+use Rattle.std.specs.Prelude.{filter, length, slice_index}
+use Rattle.std.proofs.lemmas.List.Sums.{length-filter}
 use Rattle.std.proofs.lemmas.Bool.{cases_Bool}
 use Rattle.spk_lattice.specs.Layout.{Layout}
 use Rattle.spk_lattice.specs.Neighbours.{nb}
@@ -10,7 +11,7 @@ use Rattle.spk_cmds.specs.declared.command.AppStyle.{AppStyle}
 use Rattle.spk_cmds.specs.declared.command.AppStyle.TheVariants.{Ising, IsingSingle, Potts, PottsNeighonly, DiffusionOff, DiffusionLinear}
 use Rattle.spk_potts.specs.Energies.{energy_of as unlike_energy}
 use Rattle.spk_diffusion.specs.Diffusion.{is_vacant, vacancies}
-use Rattle.spk_sched.specs.declared.energy_kind.EnergyKind.TheVariants.{Unlike, Zero, Vacant}
+use Rattle.spk_sched.specs.declared.energy_kind.EnergyKind.TheVariants.{Unlike, Vacant}
 use Rattle.spk_report.specs.Energies.{site_energy, value_of}
 use Rattle.spk_run.specs.Applications.{application_of}
 use Rattle.spk_run.specs.Energies.{energy_kind}
@@ -18,17 +19,23 @@ use Rattle.spk_run.specs.Energies.{energy_kind}
 abbrev sight : Layout → List ℕ → Sight
 sight lattice values = record { values = values; near = places_beside lattice }
 
-counted : (test : ℕ → Bool) (f : ℕ → ℕ) (xs : List ℕ) → count_by test (map f xs) ≡ count_by (λ x. test (f x)) xs
-counted test f [] = refl
-counted test f (x ∷ xs) =
+filtered : (test : ℕ → Bool) (f : ℕ → ℕ) (xs : List ℕ) → length (filter test (map f xs)) ≡ length (filter (λ x. test (f x)) xs)
+filtered test f [] = refl
+filtered test f (x ∷ xs) =
     elim (cases_Bool (test (f x))) [
-      | inl yes ↦ rw (yes, counted test f xs) refl
-      | inr no_such ↦ rw (no_such, counted test f xs) refl
+      | inl holds ↦ rw holds (ap suc (filtered test f xs))
+      | inr fails ↦ rw fails (filtered test f xs)
     ]
 
+counted : (test : ℕ → Bool) (f : ℕ → ℕ) (xs : List ℕ) → count_by test (map f xs) ≡ count_by (λ x. test (f x)) xs
+counted test f xs = sym (length-filter test (map f xs)) ∙ filtered test f xs ∙ length-filter (λ x. test (f x)) xs
+
+none_filtered : (xs : List ℕ) → length (filter (λ x. false) xs) ≡ 0
+none_filtered [] = refl
+none_filtered (x ∷ xs) = none_filtered xs
+
 none_counted : (xs : List ℕ) → count_by (λ x. false) xs ≡ 0
-none_counted [] = refl
-none_counted (x ∷ xs) = none_counted xs
+none_counted xs = sym (length-filter (λ x. false) xs) ∙ none_filtered xs
 
 -- the values beside a place, by the ids of its neighbours
 beside : (test : ℕ → Bool) (lattice : Layout) (values : List ℕ) (id : ℕ) → 1 ≤ id →

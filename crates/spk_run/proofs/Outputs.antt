@@ -1,11 +1,11 @@
 -- What a call for the screen or the log does, and where its fault stands.
-use Rattle.std.proofs.Common.{◌≡◌, ℕ, ◌<◌, List, [], ◌∷◌, length, Option, Some, None, Ok, Err, refl}
+use Rattle.std.proofs.Common.{◌≡◌, ℕ, ◌<◌, List, length, Option, Some, None, Ok, Err, refl}
 use Rattle.std.specs.Option.{option_map}
 use Rattle.spk_world.specs.Outside.{added, started, adds, starts, says, WritesPrefix}
 use Rattle.spk_world.specs.Outside.{Screen as ScreenPlace, File as FilePlace}
 use Rattle.spk_world.specs.States.{WorldState}
 use Rattle.spk_world.specs.Causes.{FileCause, ScreenCause}
-use Rattle.spk_world.specs.Effects.{◌>>◌, answers, writes, WriteFailed, Wrote}
+use Rattle.spk_world.specs.Effects.{◌>>◌, writes, WriteFailed, Wrote}
 use Rattle.spk_world.specs.declared.world.Failed.{Failed}
 use Rattle.spk_world.proofs.EffectLaws.{wrote_answer}
 use Rattle.spk_world.proofs.Writes.{failed_says, wrote_adds, failed_adds, wrote_no_adds, wrote_starts, failed_starts}

@@ -23,7 +23,7 @@ use Rattle.spk_patch.specs.Patches.{IsPatch, near_of, sight_of}
 use Rattle.spk_patch.proofs.Whole.{values_are, whole}
 use Rattle.spk_turn.proofs.Patches.{wrapped_near}
 use Rattle.spk_sched.specs.declared.plan.PlanFault.TheVariants.{RunTooLong}
-use Rattle.spk_sched.specs.Plans.{IsRun, cycle_at, elapsed, has_line, is_line_after, is_line_due, is_too_long, is_whole, plan_fault, sector_at, window, cycles, steps, is_mark, marks, marks_from}
+use Rattle.spk_sched.specs.Plans.{IsRun, cycle_at, elapsed, has_line, is_line_after, is_line_due, is_too_long, is_whole, plan_fault, sector_at, window, cycles, steps, is_mark, marks_from}
 use Rattle.spk_sched.specs.Globals.{Kinetics}
 use Rattle.spk_report.specs.declared.stats_line.StatsLine.{StatsLine}
 use Rattle.spk_report.specs.Statistics.{statistics_text}

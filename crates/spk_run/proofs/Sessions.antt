@@ -6,7 +6,7 @@ use Rattle.spk_world.specs.Outside.{Outside}
 use Rattle.spk_world.specs.Causes.{Rose}
 use Rattle.spk_world.specs.States.{Faults, WorldState}
 use Rattle.spk_world.specs.Effects.{Effect, ◌>>◌, answers, WriteFailed, Stands, StopCause, Wrote}
-use Rattle.spk_world.proofs.EffectLaws.{is_error, wrote_then, wrote_failed, wrote_answer, wrote_nothing, wrote_whole, wrote_fault}
+use Rattle.spk_world.proofs.EffectLaws.{wrote_then, wrote_failed, wrote_answer, wrote_nothing, wrote_whole, wrote_fault}
 use Rattle.spk_cmds.specs.declared.command.Command.{Command}
 use Rattle.spk_run.specs.declared.answer.Target.{Target}
 use Rattle.spk_run.specs.declared.answer.Target.TheVariants as target

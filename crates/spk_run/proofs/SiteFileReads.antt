@@ -2,17 +2,16 @@
 use Rattle.std.proofs.Common.{◌≡◌, ℕ, ◌+◌, ◌≤◌, true, false, List, [], length, Option, Some, None, Result, Ok, Err, Vec, vec_len, refl, sym, ap, ◌∙◌, subst, arith}
 use Rattle.std.proofs.lemmas.Bool.Decides.{nat_tests}
 use Rattle.std.proofs.lemmas.List.FromFn.{length-map-range_with_len}
-use Rattle.std.specs.List.{range_with_len}
 use Rattle.std.specs.Prelude.{nat_lt, unwrap_or}
-use Rattle.std.specs.Option.{IfSome, IfNone, IsSomeAnd}
-use Rattle.std.specs.Result.{IfOk, IsErrAnd, MatchResult, OnErr}
+use Rattle.std.specs.Option.{IfSome, IsSomeAnd}
+use Rattle.std.specs.Result.{IfOk, MatchResult}
 use Rattle.std.specs.declared.alloc.Global.{Global}
 use Rattle.spk_world.specs.Outside.{Outside}
-use Rattle.spk_world.specs.States.{Faults, WorldState}
+use Rattle.spk_world.specs.States.{WorldState}
 use Rattle.spk_world.specs.Causes.{Loads, LoadCause}
 use Rattle.spk_world.specs.declared.world.LoadFault.{LoadFault}
 use Rattle.spk_world.specs.declared.world.LoadFault.TheVariants.{Missing, TooLong, Failed}
-use Rattle.spk_world.specs.Effects.{Effect, answers, LoadFailed, Wrote}
+use Rattle.spk_world.specs.Effects.{answers, LoadFailed, Wrote}
 use Rattle.spk_world.proofs.EffectLaws.{wrote_answer}
 use Rattle.spk_world.proofs.LoadLaws.{wrote_after_load, load_failed, load_out_of_memory, load_later}
 use Rattle.spk_files.specs.SiteFiles.{Wanted, values_of, value_in, rows_of, first_fault, values_or_fault, site_file, IsReadOrMemory}
@@ -20,15 +19,14 @@ use Rattle.spk_files.specs.Lines.{lines_of}
 use Rattle.spk_files.specs.declared.site_fault.SiteFault.{SiteFault}
 use Rattle.spk_cmds.specs.declared.command.Command.TheVariants.{ReadSites}
 use Rattle.spk_run.specs.declared.cause.Cause.{Cause}
-use Rattle.spk_run.specs.declared.cause.Cause.TheVariants.{ScriptTooLong, FileMissing, FileTooLong, NoHeader, SitesCount, BadLine, BadId, TwiceId, MissingId, BadValue, OtherSection}
+use Rattle.spk_run.specs.declared.cause.Cause.TheVariants.{FileMissing, FileTooLong}
 use Rattle.spk_run.specs.declared.fault.Fault.{Fault}
-use Rattle.spk_run.specs.declared.fault.Fault.TheVariants.{Memory, Read, Write}
+use Rattle.spk_run.specs.declared.fault.Fault.TheVariants.{Memory, Read}
 use Rattle.spk_run.specs.declared.fault.Trouble.{Trouble}
 use Rattle.spk_run.specs.declared.state.SessionState.{SessionState}
-use Rattle.spk_run.specs.Causes.{FileRefusalRose, IsOfContent, IsOfFile}
 use Rattle.spk_run.specs.Commands.{performs}
 use Rattle.spk_run.specs.Commands.ReadSites.{wanted_in, values_or_cause, with_read, with_file, performs_read_sites}
-use Rattle.spk_run.specs.Faults.{fault_stop, verdict, trouble_of, Leaves, OnRefusal, Unwritten}
+use Rattle.spk_run.specs.Faults.{fault_stop, verdict, Leaves}
 use Rattle.spk_run.proofs.CommandSteps.{fault_stop-memory}
 use Rattle.spk_run.proofs.Loading.{read_stop}
 

@@ -1,5 +1,5 @@
 -- What a snapshot writes, part by part.
-use Rattle.std.proofs.Common.{◌≡◌, ℕ, Bool, true, false, List, [], ◌++◌, Ok, Err, Result, refl, sym, ap, subst, ◌∙◌}
+use Rattle.std.proofs.Common.{◌≡◌, ℕ, Bool, true, false, List, [], ◌++◌, Ok, Err, Result, refl, subst}
 use Rattle.std.proofs.Math.Path.{fun_ext}
 use Rattle.std.specs.Option.{option_map}
 use Rattle.std.specs.Result.{IsErrAnd}
@@ -8,7 +8,7 @@ use Rattle.spk_world.specs.States.{WorldState}
 use Rattle.spk_world.specs.Causes.{FileCause}
 use Rattle.spk_world.specs.Effects.{Effect, ◌>>=◌, ◌>>◌, answers, writes, Stop, WriteFailed, Wrote}
 use Rattle.spk_world.specs.declared.world.Failed.{Failed}
-use Rattle.spk_world.proofs.EffectLaws.{is_error, wrote_answer, wrote_failed, wrote_fault, wrote_then, wrote_whole}
+use Rattle.spk_world.proofs.EffectLaws.{wrote_answer, wrote_failed, wrote_fault, wrote_then, wrote_whole}
 use Rattle.spk_world.proofs.Writes.{wrote_starts, failed_starts}
 use Rattle.spk_report.specs.Output.{failed_stop, trouble_stop}
 use Rattle.spk_report.specs.declared.write_trouble.WriteTrouble.{WriteTrouble}

@@ -1,9 +1,9 @@
 -- One part more for a teller.
-use Rattle.std.proofs.Common.{◌≡◌, ℕ, List, [], ◌++◌, Option, Result, Ok, Err, true, false, refl, sym, subst}
+use Rattle.std.proofs.Common.{◌≡◌, ℕ, List, ◌++◌, Option, Result, Ok, Err, true, false, refl, sym, subst}
 use Rattle.std.specs.Prelude.{is_err, OnOk}
-use Rattle.spk_world.specs.Outside.{Event, File}
+use Rattle.spk_world.specs.Outside.{Event}
 use Rattle.spk_world.specs.States.{WorldState}
-use Rattle.spk_world.specs.Effects.{Effect, ◌>>◌, answers, writes, Stop, WriteFailed, Wrote}
+use Rattle.spk_world.specs.Effects.{Effect, ◌>>◌, answers, writes, Stop, Wrote}
 use Rattle.spk_world.specs.declared.world.Failed.{Failed}
 use Rattle.spk_world.proofs.EffectEquations.{answers_then, then_assoc}
 use Rattle.spk_world.proofs.EffectLaws.{wrote_fault, wrote_whole}

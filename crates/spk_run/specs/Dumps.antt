@@ -1,5 +1,5 @@
 -- Dumps: when the snapshots of each are due, and which files they go to. They are made after SPPARKS's dumps; the rules are our own.
-use Rattle.std.specs.Prelude.{◌≡◌, ℕ, ◌+◌, ◌*◌, ◌<◌, ◌≤◌, Bool, true, false, ◌||◌, ◌==◌, nat_le, if◌then◌else◌, List, [], ◌++◌, length, map, flat_map, decimal, Option, Some, None, unwrap_or}
+use Rattle.std.specs.Prelude.{ℕ, ◌+◌, ◌≤◌, Bool, true, false, ◌||◌, ◌==◌, nat_le, if◌then◌else◌, List, [], ◌++◌, length, flat_map, decimal, Option, Some, unwrap_or}
 use Rattle.std.specs.List.{after_first, before_first, list_any, position}
 use Rattle.std.specs.Option.{option_map_or}
 use Rattle.std.specs.Str.{bytes_eq}

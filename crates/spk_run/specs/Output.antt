@@ -1,6 +1,6 @@
 -- What goes to the screen and to the log, and in which order.
 use Rattle.std.specs.Prelude.{ℕ, Bool, if◌then◌else◌, List, Option, Some, None, codes}
-use Rattle.spk_world.specs.Outside.{says, adds, starts}
+use Rattle.spk_world.specs.Outside.{says, starts}
 use Rattle.spk_world.specs.Effects.{Effect, ◌>>◌, answers, writes}
 use Rattle.spk_report.specs.Output.{logs, prints}
 use Rattle.spk_cmds.specs.declared.options.Echo.{Echo}

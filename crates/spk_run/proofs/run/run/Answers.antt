@@ -1,4 +1,4 @@
-use Rattle.std.proofs.Common.{◌≡◌, ◌≤◌, List, true, map, refl, sym, ap, subst, ◌∙◌, arith}
+use Rattle.std.proofs.Common.{◌≡◌, ◌≤◌, List, true, map, sym, ap, subst, ◌∙◌, arith}
 use Rattle.spk_report.specs.Output.{prints}
 use Rattle.spk_run.proofs.DumpTelling.{shows_same}
 use Rattle.spk_run.proofs.RunSteps.{dumps_left_none, ends_in_time, ends_telling, first_left, has_done_telling, marks_left_none, show_telling, shown_telling, starts_telling, step_fits}

@@ -1,5 +1,4 @@
-use Rattle.std.proofs.Common.{◌≡◌, ◌∷◌, [], sym, ap, subst, ◌∙◌}
-use Rattle.spk_report.specs.Pieces.{AreValuesOf}
+use Rattle.std.proofs.Common.{◌∷◌, []}
 use Rattle.spk_report.proofs.OnePiece.{only_piece, piece_shows}
 use Rattle.spk_run.proofs.piece.Piece.as_slice.Goals as goal
 

@@ -1,4 +1,4 @@
-use Rattle.std.proofs.Common.{◌≤◌, ◌+◌, sym, ap, ◌∙◌, arith}
+use Rattle.std.proofs.Common.{◌+◌, sym, ◌∙◌}
 use Rattle.spk_sched.specs.Globals.{kinetics_of}
 use Rattle.spk_sched.proofs.PlanLaws.{whole_plan, mark_is, steps_are}
 use Rattle.spk_run.proofs.RunSteps.{runs_marked, runs_unmarked, shown_turned}

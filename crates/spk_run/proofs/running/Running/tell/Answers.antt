@@ -1,4 +1,4 @@
-use Rattle.std.proofs.Common.{◌≡◌, length, refl, sym, ap, ◌∙◌, subst, List, ℕ}
+use Rattle.std.proofs.Common.{◌≡◌, length, sym, ap, ◌∙◌, subst}
 use Rattle.spk_world.specs.Effects.{writes}
 use Rattle.spk_patch.specs.Patches.{place_count}
 use Rattle.spk_sched.specs.Globals.{kinetics_of}

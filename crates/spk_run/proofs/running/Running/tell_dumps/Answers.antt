@@ -1,8 +1,7 @@
 use Rattle.std.proofs.Common.{◌≡◌, sym, ap, ◌∙◌, length, subst}
 use Rattle.spk_lattice.specs.Layout.{IsLattice, sites_of}
-use Rattle.spk_patch.proofs.Whole.{values_are, whole}
 use Rattle.spk_report.specs.Pieces.{AreValuesOf}
-use Rattle.spk_run.proofs.DumpTelling.{none_due, shows_itself}
+use Rattle.spk_run.proofs.DumpTelling.{none_due}
 use Rattle.spk_run.proofs.RunSteps.{all_values, show_telling}
 use Rattle.spk_run.specs.Snapshots.{scene_at}
 use Rattle.spk_run.proofs.Tellers.{tells_nothing}

@@ -1,4 +1,3 @@
-use Rattle.std.proofs.Common.{sym, ap, ◌∙◌}
 use Rattle.spk_sched.specs.Globals.{kinetics_of}
 use Rattle.spk_run.specs.Runs.{domain_at}
 use Rattle.spk_run.proofs.DumpTelling.{shows_same}

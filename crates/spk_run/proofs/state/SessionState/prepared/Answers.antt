@@ -1,4 +1,4 @@
-use Rattle.std.proofs.Common.{◌≡◌, refl, sym, ap, subst, ◌∙◌}
+use Rattle.std.proofs.Common.{ap, ◌∙◌}
 use Rattle.spk_app.specs.Applications.{Application}
 use Rattle.spk_run.specs.Commands.Run.{settings_of}
 use Rattle.spk_run.proofs.state.SessionState.prepared.Goals as goal

@@ -1,4 +1,4 @@
-use Rattle.std.proofs.Common.{Err, Ok, ◌∙◌}
+use Rattle.std.proofs.Common.{Err, ◌∙◌}
 use Rattle.spk_run.proofs.Sessions.{command_out_of_memory}
 use Rattle.spk_run.proofs.SiteFileReads.{found_file, missing_file, long_file, file_read, read_without_memory, bytes_read, not_read}
 use Rattle.spk_run.proofs.state.SessionState.read_sites.Goals as goal

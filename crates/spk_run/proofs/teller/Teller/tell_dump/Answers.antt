@@ -1,6 +1,5 @@
-use Rattle.std.proofs.Common.{◌≡◌, sym, ap, ◌∙◌}
-use Rattle.spk_world.specs.Effects.{answers, writes}
-use Rattle.spk_run.specs.Dumps.{dump_events}
+use Rattle.std.proofs.Common.{sym, ap, ◌∙◌}
+use Rattle.spk_world.specs.Effects.{writes}
 use Rattle.spk_run.specs.Snapshots.{scene_at}
 use Rattle.spk_run.proofs.DumpTelling.{due_events, no_snapshot}
 use Rattle.spk_run.proofs.SnapshotWrites.{no_events}

@@ -1,10 +1,7 @@
-use Rattle.std.proofs.Common.{◌≡◌, ◌<◌, length, flat_map, take, sym, ap, ◌∙◌, subst, arith}
-use Rattle.std.proofs.lemmas.List.{take_all}
+use Rattle.std.proofs.Common.{sym, subst}
 use Rattle.std.proofs.lemmas.List.Elements.{All-get_or}
-use Rattle.spk_world.specs.Effects.{writes}
-use Rattle.spk_run.specs.Dumps.{dump_events}
 use Rattle.spk_run.specs.Snapshots.{HasRoomForDumps, HasTextRoom, scene_at}
-use Rattle.spk_run.proofs.DumpTelling.{dumps_so_far_none, dumps_so_far_more, dumps_so_far_all, shows_itself, shows_on, same_scene, text_room}
+use Rattle.spk_run.proofs.DumpTelling.{dumps_so_far_none, dumps_so_far_more, dumps_so_far_all, shows_itself, shows_on, text_room}
 use Rattle.spk_run.proofs.teller.Teller.tell_dumps.Goals as goal
 
 pub loop-dump-init : goal.loop-dump-init

@@ -1,4 +1,4 @@
-use Rattle.std.proofs.Common.{sym, ap, ◌∙◌, subst}
+use Rattle.std.proofs.Common.{sym, ◌∙◌}
 use Rattle.spk_world.specs.Effects.{writes}
 use Rattle.spk_run.specs.Dumps.{snapshot_events}
 use Rattle.spk_run.specs.Snapshots.{scene_at}
