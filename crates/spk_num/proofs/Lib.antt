@@ -2,6 +2,7 @@ pub mod DrawSteps
 pub mod Lengths
 pub mod LogarithmSteps
 pub mod ResultLaws
+pub mod Scales
 pub mod Values
 pub mod WeightLaws
 pub mod WeightSteps

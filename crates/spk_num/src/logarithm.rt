@@ -65,16 +65,10 @@ fn with_next_bit(log: Bits) -> Bits
     ensures found { result.found ≤ 2 * log.found + 1 }
 {
     let square = log.rest * log.rest / ONE;
-    if square >= TWO {
-        Bits {
-            found: 2 * log.found + 1,
-            rest: square / 2,
-        }
-    } else {
-        Bits {
-            found: 2 * log.found,
-            rest: square,
-        }
+    let carry = square / TWO;
+    Bits {
+        found: 2 * log.found + carry,
+        rest: square >> carry,
     }
 }
 

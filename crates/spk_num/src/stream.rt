@@ -1,7 +1,7 @@
 //! Streams of random numbers: the minimal standard generator of Park and Miller.
 //! How a stream starts and how a draw becomes a choice are rules of our own.
 
-ghost use Rattle.std.specs.Prelude.{◌≡◌, ℕ, ◌^◌, ◌<◌, SomeIff};
+ghost use Rattle.std.specs.Prelude.{◌≡◌, ℕ, ◌*◌, ◌/◌, ◌^◌, ◌<◌, SomeIff};
 ghost use Rattle.spk_num.specs.Draws.{next_state, start_state, below_of, below_two_of};
 
 use std::marker::Model;
@@ -31,6 +31,29 @@ impl Model for Stream {
     ghost invariant = { λ s. (0 < s.state) × (s.state < 2147483647) };
 
     ghost inverse = { λ x. record { state = x } };
+}
+
+/// How many pairs of values two draws can take.
+const PAIRS: u64 = 4611686009837453316;
+/// 2^125 divided by the number of pairs, rounded down.
+const RECIPROCAL: u128 = 9223372054034645016;
+
+/// A pair of draws scaled to numbers below `total`, with no wide division.
+#[tactic(auto, using(crate::proofs::Scales::scales))]
+fn scaled(pair: u64, total: u64) -> u64
+    requires pair { pair < 4611686009837453316 }
+    requires total { total < 2 ^ 63 }
+    ensures { result ≡ pair * total / 4611686009837453316 }
+{
+    let product = u128::from(pair) * u128::from(total);
+    let high = product / (1 << 61);
+    let guess = high * RECIPROCAL / (1 << 64);
+    let rest = product - guess * u128::from(PAIRS);
+    if rest >= u128::from(PAIRS) {
+        (guess + 1) as u64
+    } else {
+        guess as u64
+    }
 }
 
 impl Stream {
@@ -70,7 +93,14 @@ impl Stream {
         ensures above { 0 < result }
         ensures below { result < 2147483647 }
     {
-        self.state = (MULTIPLIER * u64::from(self.state) % u64::from(MODULUS)) as u32;
+        let product = MULTIPLIER * u64::from(self.state);
+        let folded = product % (1 << 31) + product / (1 << 31);
+        let modulus = u64::from(MODULUS);
+        self.state = (if folded >= modulus {
+            folded - modulus
+        } else {
+            folded
+        }) as u32;
         self.state
     }
 
@@ -82,8 +112,12 @@ impl Stream {
         ensures number { result ≡ below_of n self.new }
         ensures below { result < n }
     {
-        let draw = self.next();
-        (u128::from(draw - 1) * u128::from(n) / u128::from(VALUES)) as u64
+        let draw = self.next() - 1;
+        // A division of 64 bits by a constant is a multiplication, and one of 128 bits isn't.
+        if n < 1 << 32 {
+            return u64::from(draw) * n / u64::from(VALUES);
+        }
+        (u128::from(draw) * u128::from(n) / u128::from(VALUES)) as u64
     }
 
     /// A number below `total`, by two draws: finer than one draw where `total` is large.
@@ -96,9 +130,8 @@ impl Stream {
     {
         let first = self.next();
         let second = self.next();
-        let values = u128::from(VALUES);
-        let pair = u128::from(first - 1) * values + u128::from(second - 1);
-        (pair * u128::from(total) / (values * values)) as u64
+        let pair = u64::from(first - 1) * u64::from(VALUES) + u64::from(second - 1);
+        scaled(pair, total)
     }
 
     /// The last draw, or the start of a stream that has made none.
