@@ -1,6 +1,6 @@
 -- All bins together have the total of the list.
-use Rattle.std.proofs.Common.{◌≡◌, ℕ, zero, suc, ◌+◌, ◌^◌, ◌<◌, ◌≤◌, ◌++◌, List, [], ◌∷◌, Bool, true, false, cond, ltb, refl, sym, ap, ◌∙◌, arith, length, get_or, take, sum, zero-add, take_all}
-use Rattle.std.proofs.lemmas.List.Sums.{sum_by-cons, sum_by_push, sum_by_more}
+use Rattle.std.proofs.Common.{◌≡◌, ℕ, zero, suc, ◌+◌, ◌^◌, ◌<◌, ◌≤◌, ◌++◌, List, [], ◌∷◌, Bool, true, false, cond, ltb, refl, sym, ap, ◌∙◌, arith, length, get_or, take, sum, zero-add}
+use Rattle.std.proofs.lemmas.List.Sums.{sum_by-cons, sum_by_push, get_or-le-sum_by}
 use Rattle.std.proofs.lemmas.Grind.{pow_more, common_steps}
 use Rattle.std.proofs.lemmas.Nat.{pow_pos}
 use Rattle.std.proofs.lemmas.List.FromFn.{length-range_with_len, get_or-range_with_len}
@@ -79,6 +79,10 @@ totals weights small =
     let less : All (λ w. w < 2 ^ 36) weights = All-weaker (λ w. w ≤ 2 ^ 35) (λ w. w < 2 ^ 36) (λ w most. omega arith) weights small in
     totals_before weights 36 (length weights) less (omega arith) ∙ ap sum (take-length weights)
 
+pub all_totals : (weights : List ℕ) → All (λ w. w ≤ 2 ^ 35) weights → sum_by (bin_total weights) (range_with_len 0 36) ≡ sum weights
+unfolding bins
+all_totals weights small = totals weights small
+
 pub bins_length : length bins ≡ 36
 unfolding bins
 bins_length = length-range_with_len 0 36
@@ -87,9 +91,7 @@ pub bins_at : (bin : ℕ) → bin < 36 → get_or bins bin 0 ≡ bin
 unfolding bins
 bins_at bin less = get_or-range_with_len 0 36 bin 0 less ∙ zero-add bin
 
--- the totals of the first bins, with one bin more, and of them all
-pub all_bins : (total : ℕ → ℕ) (bin : ℕ) → bin < 36 → sum_by total (take (bin + 1) bins) ≡ sum_by total (take bin bins) + total bin
-all_bins total bin less = sum_by_more total bins bin 0 (omega (arith, bins_length)) ∙ ap (λ b. sum_by total (take bin bins) + total b) (bins_at bin less)
-
-pub no_bin : (total : ℕ → ℕ) (bin : ℕ) → 36 ≤ bin → sum_by total (take bin bins) ≡ sum_by total bins
-no_bin total bin all = ap (sum_by total) (take_all bin bins (omega (arith, bins_length)))
+-- no bin has more than the list
+pub bin_within : (weights : List ℕ) (bin : ℕ) → bin < 36 → All (λ w. w ≤ 2 ^ 35) weights → bin_total weights bin ≤ sum weights
+bin_within weights bin less small =
+    omega (arith, totals weights small, get_or-le-sum_by (bin_total weights) bins bin 0 (omega (arith, bins_length)), ap (bin_total weights) (bins_at bin less))

@@ -31,7 +31,7 @@ below_less n x some =
     (div-lt_iff_lt-mul {k = 2147483646} {x = drawn * n} {y = n} (omega arith)).1 less
 
 -- an element that is named has a weight
-named_some : (weight : ℕ → ℕ) (so_far target : ℕ) (es : List ℕ) (e : ℕ)
+pub named_some : (weight : ℕ → ℕ) (so_far target : ℕ) (es : List ℕ) (e : ℕ)
     → so_far ≤ target
     → named_from weight so_far target es ≡ Some e
     → 0 < weight e
@@ -49,7 +49,7 @@ some_there f [] some = some
 some_there f (x ∷ xs) some = omega arith
 
 -- a bin with a total has members
-members_there : (weights : List ℕ) (bin : ℕ) → 0 < bin_total weights bin → 0 < length (members weights bin)
+pub members_there : (weights : List ℕ) (bin : ℕ) → 0 < bin_total weights bin → 0 < length (members weights bin)
 members_there weights bin some = some_there (λ place. get_or weights place 0) (members weights bin) some
 
 try_is_tried : (weights : List ℕ) (bin stream : ℕ) → 0 < length (members weights bin) → IsTried weights (try_of weights bin stream)

@@ -1,6 +1,15 @@
+pub mod BinChanges
 pub mod BinSums
+pub mod BlockMembers
+pub mod GroupChanges
+pub mod GroupStates
 pub mod Inside
 pub mod Keeps
 pub mod Members
 pub mod Names
+pub mod PrefixSums
+pub mod Ranges
+pub mod SumTreeLaws
+pub mod TreeChanges
+pub mod TreeLevels
 pub mod Tries

@@ -2,7 +2,7 @@
 use Rattle.std.proofs.Common.{◌≡◌, ℕ, zero, suc, ◌+◌, ◌-◌, ◌^◌, ◌<◌, ◌≤◌, ◌++◌, List, [], ◌∷◌, Bool, true, false, cond, refl, sym, ap, ◌∙◌, arith, length, get_or, zero-add, add-zero, append-nil, append_assoc}
 use Rattle.std.proofs.lemmas.List.Elements.{filter-append, filter_passes, All-filter, All-get_or, All-nil, All-cons, All-weaker}
 use Rattle.std.proofs.lemmas.List.Sums.{sum_by_push}
-use Rattle.std.proofs.lemmas.List.{length_push, length-append}
+use Rattle.std.proofs.lemmas.List.{length-append}
 use Rattle.std.proofs.Math.Seq.{get_or-append_seam}
 use Rattle.std.proofs.lemmas.Nat.{pow_pos, pow_below}
 use Rattle.std.proofs.lemmas.Bool.Decides.{nat_tests}
@@ -49,17 +49,7 @@ pub members_no : (weights : List ℕ) (bin n : ℕ)
     → members_before weights bin (n + 1) ≡ members_before weights bin n
 members_no weights bin n not_in = members_more weights bin n ∙ ap (λ b. members_before weights bin n ++ cond b (n ∷ []) []) not_in ∙ append-nil (members_before weights bin n)
 
--- how many members there are, and their total, with the next place
-pub count_yes : (weights : List ℕ) (bin n : ℕ)
-    → in_bin bin (get_or weights n 0) ≡ true
-    → length (members_before weights bin (n + 1)) ≡ length (members_before weights bin n) + 1
-count_yes weights bin n in_it = ap length (members_yes weights bin n in_it) ∙ length_push (members_before weights bin n) n
-
-pub count_no : (weights : List ℕ) (bin n : ℕ)
-    → in_bin bin (get_or weights n 0) ≡ false
-    → length (members_before weights bin (n + 1)) ≡ length (members_before weights bin n)
-count_no weights bin n not_in = ap length (members_no weights bin n not_in)
-
+-- the total of the members among so many first places, with the next place
 abbrev pub total_before : List ℕ → ℕ → ℕ → ℕ
 total_before weights bin n = sum_by (λ place. get_or weights place 0) (members_before weights bin n)
 

@@ -1,8 +1,9 @@
 -- What a target names, walked from the first element on.
-use Rattle.std.proofs.Common.{◌≡◌, ℕ, ◌+◌, ◌<◌, ◌≤◌, List, ◌∷◌, refl, sym, ap, ◌∙◌, arith, true, false, ◌⊎◌, drop, sum_by, []}
+use Rattle.std.proofs.Common.{◌≡◌, ◌+◌, ◌<◌, ◌≤◌, List, ◌∷◌, refl, sym, ap, ◌∙◌, arith, true, false, ◌⊎◌, drop, sum_by, [], ℕ, zero, suc, cond}
 use Rattle.std.proofs.lemmas.Bool.Decides.{nat_tests}
 use Rattle.std.proofs.lemmas.List.{drop_more}
 use Rattle.std.specs.Prelude.{nat_lt, Some, None}
+use Rattle.std.specs.List.{range_with_len}
 use Rattle.std.proofs.lemmas.List.Sums.{sum_by-cons}
 use Rattle.spk_solve.specs.Bins.{bins}
 use Rattle.spk_solve.specs.Choice.{named_from, named}
@@ -57,3 +58,18 @@ none_named weight so_far target [] most = refl
 none_named weight so_far target (e ∷ es) most =
     let split : sum_by weight (e ∷ es) ≡ weight e + sum_by weight es = sum_by-cons weight e es in
     passed weight so_far target e es (omega arith) ∙ none_named weight (so_far + weight e) target es (omega arith)
+
+-- two weights that agree on a range name the same
+named_on : (f g : ℕ → ℕ) (so_far target a n : ℕ)
+    → ((k : ℕ) → a ≤ k → k < a + n → f k ≡ g k)
+    → named_from f so_far target (range_with_len a n) ≡ named_from g so_far target (range_with_len a n)
+named_on f g so_far target a zero same = refl
+named_on f g so_far target a (suc n) same =
+    let here_same : f a ≡ g a = same a (omega arith) (omega arith) in
+    let later : named_from f (so_far + g a) target (range_with_len (a + 1) n) ≡ named_from g (so_far + g a) target (range_with_len (a + 1) n) =
+    named_on f g (so_far + g a) target (a + 1) n (λ k low high. same k (omega arith) (omega arith)) in
+    rw here_same (ap (λ rest. cond (nat_lt target (so_far + g a)) (Some a) rest) later)
+
+pub named_same : (f g : ℕ → ℕ) (target : ℕ) → ((bin : ℕ) → bin < 36 → f bin ≡ g bin) → named f target bins ≡ named g target bins
+unfolding named bins
+named_same f g target same = named_on f g 0 target 0 36 (λ k low high. same k (omega arith))

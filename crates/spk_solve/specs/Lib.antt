@@ -1,3 +1,5 @@
 pub mod Bins
 pub mod Choice
+pub mod Groups
 pub mod Kept
+pub mod SumTrees

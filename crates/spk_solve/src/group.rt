@@ -1,42 +1,50 @@
 //! A solver that first chooses a bin of propensities of about one size, and then a place in it by tries. The idea is that of
 //! SPPARKS's group solver, composition and rejection. The bins, the draws and the tries are rules of our own.
 
-ghost use Rattle.std.specs.Prelude.{◌≡◌, ℕ, ◌+◌, ◌^◌, ◌<◌, ◌≤◌, List, [], length, sum, replicate, slice_set, slice_index, All, Some, IfOk, IfSome, IfNone};
-ghost use Rattle.spk_solve.specs.Bins.{bins, in_bin, members, bin_total, try_of, taken_of};
+ghost use Rattle.std.specs.Prelude.{◌≡◌, ℕ, ◌+◌, ◌*◌, ◌^◌, ◌<◌, ◌≤◌, List, [], length, sum, replicate, slice_set, slice_index, Some, IfOk, IfSome, IfNone};
+ghost use Rattle.spk_solve.specs.Bins.{bins, members, bin_total, try_of, taken_of};
 ghost use Rattle.spk_solve.specs.Choice.{Rule, Bins, Chooses, named, choice_of};
+ghost use Rattle.spk_solve.specs.Groups.{IsBinOf, count_in};
+ghost use Rattle.spk_solve.specs.SumTrees.{search_steps};
 
-use crate::flat::Flat;
+mod blocks;
+
 use crate::solver::{Chosen, Solver};
+use crate::sum_tree::SumTree;
+use blocks::{BLOCK, blocks_of, lower_count, make_trees, raise_count, reset_trees};
 use spk_num::{OutOfMemory, Steps, Stream};
 use std::alloc::Global;
 use std::marker::Model;
 use std::sync::ledger::Ledger;
 
 /// How many bins there are.
-const BINS: u32 = 36;
+const BINS: u8 = 36;
+/// In place of the bin of a propensity that is 0.
+const NO_BIN: u8 = 36;
 /// The most tries of a choice.
 const TRIES: u32 = 64;
 
-/// Propensities in a flat list, which is walked for each bin and each try.
+/// Propensities with their bins. Each bin has its total, and a tree of how many members it has in each block of places.
 #[derive(Debug, Drop)]
 pub struct Group {
-    flat: Flat,
+    weights: Vec<u64>,
+    used: usize,
+    total: u64,
+    /// The bin of each propensity.
+    bytes: Vec<u8>,
+    totals: Vec<u64>,
+    trees: Vec<SumTree>,
 }
 
 impl Model for Group {
-    ghost use Rattle.spk_solve.specs.Kept.{Kept};
+    ghost use Rattle.spk_solve.specs.Kept.{Kept, kept_of};
+    ghost use Rattle.spk_solve.specs.Groups.{IsGrouped};
 
     ghost Value = { Kept };
 
-    ghost view = { λ g. g.flat };
-}
+    ghost view = { λ g. kept_of g.weights.items g.used };
 
-/// A bin has the propensities from 2^number to below 2^(number + 1): so many members, and their total.
-#[derive(Clone, Copy)]
-struct Bin {
-    number: u32,
-    members: u64,
-    total: u64,
+    ghost invariant = { λ g. IsGrouped g.weights.items g.used g.total g.bytes.items g.totals.items g.trees.items };
 }
 
 /// A try draws a place, and a value that is taken if it is below the propensity there.
@@ -46,122 +54,31 @@ struct Drawn {
     value: u64,
 }
 
-/// Whether a bin has a propensity.
-fn is_in(bin: u32, weight: u64) -> bool
-    requires { bin < 36 }
-    ensures { result ≡ in_bin bin weight }
+/// The bin of a propensity.
+fn bin_of(p: u64) -> u8
+    requires { p ≤ 2 ^ 35 }
+    ensures { IsBinOf result p }
 {
-    2u64.pow(bin) <= weight && weight < 2u64.pow(bin + 1)
-}
-
-impl Bin {
-    /// The bin with this number.
-    fn of(weights: &[u64], number: u32) -> Bin
-        requires number { number < 36 }
-        requires small { All (λ w. w ≤ 2 ^ 35) weights.now }
-        requires few { length weights.now ≤ 4194304 }
-        ensures number { result.number ≡ number }
-        ensures members { result.members ≡ length (members weights.now number) }
-        ensures total { result.total ≡ bin_total weights.now number }
-        ensures limit { result.total ≤ 2 ^ 57 }
-    {
-        let mut bin = Bin {
-            number,
-            members: 0,
-            total: 0,
-        };
-        for weight in weights {
-            if is_in(number, *weight) {
-                bin.members += 1;
-                bin.total += *weight;
-            }
-        }
-        bin
-    }
+    if p == 0 { NO_BIN } else { p.ilog2() as u8 }
 }
 
 /// The first bin, from the smallest propensities on, where the running sum of the totals passes a target.
-fn bin_of(weights: &[u64], target: u64) -> Bin
-    requires small { All (λ w. w ≤ 2 ^ 35) weights.now }
-    requires few { length weights.now ≤ 4194304 }
-    requires target { target < sum weights.now }
-    ensures named { named (bin_total weights.now) target bins ≡ Some result.number }
-    ensures number { result.number < 36 }
-    ensures members { result.members ≡ length (members weights.now result.number) }
-    ensures some { 0 < result.members }
+fn named_bin(totals: &[u64], target: u64) -> u8
+    requires long { length totals.now ≡ 36 }
+    requires target { target < sum totals.now }
+    requires small { sum totals.now < 2 ^ 63 }
+    ensures named { named (slice_index totals.now) target bins ≡ Some result }
+    ensures number { result < 36 }
 {
     let mut passed = 0;
-    'bins: for number in 0..BINS {
-        let bin = Bin::of(weights, number);
-        if target < passed + bin.total {
+    'bins: for bin in 0..BINS {
+        let total = totals[usize::from(bin)];
+        if target < passed + total {
             return bin;
         }
-        passed += bin.total;
+        passed += total;
     }
     unreachable!()
-}
-
-/// The place of a member of a bin, counted from 0.
-fn member(weights: &[u64], bin: u32, k: u64) -> usize
-    requires number { bin < 36 }
-    requires few { length weights.now ≤ 4194304 }
-    requires k { k < length (members weights.now bin) }
-    ensures member { result ≡ slice_index (members weights.now bin) k }
-    ensures place { result < length weights.now }
-    ensures some { 0 < slice_index weights.now result }
-{
-    let mut passed = 0;
-    for (place, weight) in weights.iter().enumerate() {
-        if is_in(bin, *weight) {
-            if passed == k {
-                return place;
-            }
-            passed += 1;
-        }
-    }
-    unreachable!()
-}
-
-/// A try: a member of a bin by one draw, and a value below the bin's end by the next.
-fn draw(weights: &[u64], bin: &Bin, stream: &mut Stream) -> Drawn
-    requires number { bin.now.number < 36 }
-    requires few { length weights.now ≤ 4194304 }
-    requires members { bin.now.members ≡ length (members weights.now bin.now.number) }
-    requires some { 0 < bin.now.members }
-    ensures drawn { try_of weights.now bin.now.number stream.old ≡ record { place = result.place; value = result.value; stream = stream.new } }
-    ensures place { result.place < length weights.now }
-    ensures some { 0 < slice_index weights.now result.place }
-{
-    let k = stream.below(bin.members);
-    let value = stream.below(2u64.pow(bin.number + 1));
-    Drawn {
-        place: member(weights, bin.number, k),
-        value,
-    }
-}
-
-/// Chooses a place of a bin by tries. The last one is taken in any case.
-fn choose_in(weights: &[u64], bin: &Bin, stream: &mut Stream) -> Chosen
-    requires number { bin.now.number < 36 }
-    requires few { length weights.now ≤ 4194304 }
-    requires members { bin.now.members ≡ length (members weights.now bin.now.number) }
-    requires some { 0 < bin.now.members }
-    ensures choice { choice_of weights.now (taken_of weights.now bin.now.number stream.old)
-        ≡ record { place = result.place; rest = result.rest; stream = stream.new } }
-    ensures place { result.place < length weights.now }
-    ensures rest { result.rest < slice_index weights.now result.place }
-{
-    let mut drawn = draw(weights, bin, stream);
-    'tries: for _ in 1..TRIES {
-        if drawn.value < weights[drawn.place] {
-            break;
-        }
-        drawn = draw(weights, bin, stream);
-    }
-    Chosen {
-        place: drawn.place,
-        rest: drawn.value % weights[drawn.place],
-    }
 }
 
 impl Group {
@@ -171,8 +88,124 @@ impl Group {
         ensures capacity { IfOk result (λ g. g.room ≡ capacity) }
         ensures empty { IfOk result (λ g. g.list ≡ []) }
     {
-        let flat = Flat::new(alloc, capacity)?;
-        Ok(Group { flat })
+        let weights = vec![in alloc; 0; capacity]?;
+        let bytes = vec![in alloc; NO_BIN; capacity]?;
+        let totals = vec![in alloc; 0; usize::from(BINS)]?;
+        let trees = make_trees(alloc, blocks_of(capacity))?;
+        Ok(Group {
+            weights,
+            used: 0,
+            total: 0,
+            bytes,
+            totals,
+            trees,
+        })
+    }
+
+    /// Makes a propensity 0.
+    fn take_out(&mut self, i: usize)
+        requires { i < length self.old.list }
+        ensures list { self.new.list ≡ slice_set self.old.list i 0 }
+        ensures room { self.new.room ≡ self.old.room }
+    {
+        let bin = self.bytes[i];
+        if bin == NO_BIN {
+            return;
+        }
+        let weight = self.weights[i];
+        let number = usize::from(bin);
+        self.weights[i] = 0;
+        self.total -= weight;
+        self.bytes[i] = NO_BIN;
+        self.totals[number] -= weight;
+        let tree = &mut self.trees[number];
+        lower_count(tree, i / BLOCK);
+    }
+
+    /// Writes a propensity over one that is 0.
+    fn put_in(&mut self, i: usize, p: u64)
+        requires place { i < length self.old.list }
+        requires small { p ≤ 2 ^ 35 }
+        requires empty { slice_index self.old.list i ≡ 0 }
+        ensures list { self.new.list ≡ slice_set self.old.list i p }
+        ensures room { self.new.room ≡ self.old.room }
+    {
+        let bin = bin_of(p);
+        if bin == NO_BIN {
+            return;
+        }
+        let number = usize::from(bin);
+        self.weights[i] = p;
+        self.total += p;
+        self.bytes[i] = bin;
+        self.totals[number] += p;
+        let tree = &mut self.trees[number];
+        raise_count(tree, i / BLOCK);
+    }
+
+    /// The place of a member of a bin in a block, counted from 0 there.
+    fn member_in(&self, bin: u8, block: usize, rest: u64) -> usize
+        requires number { bin < 36 }
+        requires block { 64 * block < length self.now.list }
+        requires rest { rest < count_in self.now.list bin (64 * block) 64 }
+        ensures member { result ≡ slice_index (members self.now.list bin) (count_in self.now.list bin 0 (64 * block) + rest) }
+    {
+        let end = self.used.min(BLOCK * (block + 1));
+        let first = BLOCK * block;
+        let mut left = rest;
+        'places: for place in first..end {
+            if self.bytes[place] == bin {
+                if left == 0 {
+                    return place;
+                }
+                left -= 1;
+            }
+        }
+        unreachable!()
+    }
+
+    /// A try: a member of a bin by one draw, and a value below the bin's end by the next.
+    fn draw<L: Ledger>(&self, bin: u8, stream: &mut Stream, steps: &mut Steps<L>) -> Drawn
+        requires number { bin < 36 }
+        requires some { 0 < length (members self.now.list bin) }
+        ensures drawn { try_of self.now.list bin stream.old ≡ record { place = result.place; value = result.value; stream = stream.new } }
+        ensures place { result.place < length self.now.list }
+        ensures some { 0 < slice_index self.now.list result.place }
+        ensures later { steps.old ≤ steps.new }
+        ensures cost { steps.new ≤ steps.old + search_steps (length self.now.list) }
+    {
+        let tree = &self.trees[usize::from(bin)];
+        let k = stream.below(tree.total());
+        let value = stream.below(2u64.pow(u32::from(bin) + 1));
+        let found = tree.find(k, steps);
+        Drawn {
+            place: self.member_in(bin, found.place, found.rest),
+            value,
+        }
+    }
+
+    /// Chooses a place of a bin by tries. The last one is taken in any case.
+    fn choose_in<L: Ledger>(&self, bin: u8, stream: &mut Stream, steps: &mut Steps<L>) -> Chosen
+        requires number { bin < 36 }
+        requires some { 0 < length (members self.now.list bin) }
+        ensures choice { choice_of self.now.list (taken_of self.now.list bin stream.old)
+            ≡ record { place = result.place; rest = result.rest; stream = stream.new } }
+        ensures place { result.place < length self.now.list }
+        ensures rest { result.rest < slice_index self.now.list result.place }
+        ensures later { steps.old ≤ steps.new }
+        ensures cost { steps.new ≤ steps.old + 64 * search_steps (length self.now.list) }
+    {
+        let mut drawn = self.draw(bin, stream, steps);
+        'tries: for _ in 1..TRIES {
+            if drawn.value < self.weights[drawn.place] {
+                break;
+            }
+            drawn = self.draw(bin, stream, steps);
+        }
+        Chosen {
+            place: drawn.place,
+            rest: drawn.value % self.weights[drawn.place],
+        }
     }
 }
 
@@ -183,32 +216,41 @@ impl Solver for Group {
 
     ghost rule = { Bins };
 
-    ghost reach = { λ _. 0 };
+    ghost reach = { λ n. 64 * search_steps n };
 
     fn make(alloc: Global, room: usize) -> Result<Group, OutOfMemory> {
         Group::new(alloc, room)
     }
 
     fn reset(&mut self, n: usize) {
-        self.flat.reset(n);
+        'zeros: for place in 0..n {
+            self.weights[place] = 0;
+            self.bytes[place] = NO_BIN;
+        }
+        self.used = n;
+        self.total = 0;
+        self.totals.fill(0);
+        reset_trees(&mut self.trees, blocks_of(n));
     }
 
     fn set(&mut self, i: usize, p: u64) {
-        self.flat.set(i, p);
+        if self.weights[i] == p {
+            return;
+        }
+        self.take_out(i);
+        self.put_in(i, p);
     }
 
     fn total(&self) -> u64 {
-        self.flat.total()
+        self.total
     }
 
     fn choose<L: Ledger>(&mut self, stream: &mut Stream, steps: &mut Steps<L>) -> Option<Chosen> {
-        let total = self.flat.total();
-        if total == 0 {
+        if self.total == 0 {
             return None;
         }
-        let target = stream.below_two(total);
-        let weights = self.flat.as_slice();
-        let bin = bin_of(weights, target);
-        Some(choose_in(weights, &bin, stream))
+        let target = stream.below_two(self.total);
+        let bin = named_bin(&self.totals, target);
+        Some(self.choose_in(bin, stream, steps))
     }
 }

@@ -120,5 +120,7 @@ fn group_chooses_by_bins(rt: HostRuntime) -> Result<(), Fail> {
         4,
         (29, 4, 0, 166785366),
     )?;
+    // The place is in the third block of 64 places.
+    compare::<Group>(&rt, rt.alloc(), &[5; 200], 12345, (1000, 189, 0, 77048696))?;
     Ok(())
 }

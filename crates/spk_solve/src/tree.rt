@@ -2,18 +2,19 @@
 
 ghost use Rattle.std.specs.Prelude.{◌≡◌, ℕ, ◌+◌, ◌^◌, ◌<◌, ◌≤◌, List, [], length, sum, replicate, slice_set, slice_index, IfOk, IfSome, IfNone};
 ghost use Rattle.spk_solve.specs.Choice.{Rule, RunningSum, Chooses};
+ghost use Rattle.spk_solve.specs.SumTrees.{search_steps};
 
-use crate::flat::Flat;
 use crate::solver::{Chosen, Solver};
+use crate::sum_tree::SumTree;
 use spk_num::{OutOfMemory, Steps, Stream};
 use std::alloc::Global;
 use std::marker::Model;
 use std::sync::ledger::Ledger;
 
-/// Propensities in a flat list. It chooses as `Linear` does, by walking the running sum.
+/// Propensities under a tree of their sums. It chooses as `Linear` does, by the running sum.
 #[derive(Debug, Drop)]
 pub struct Tree {
-    flat: Flat,
+    tree: SumTree,
 }
 
 impl Model for Tree {
@@ -21,7 +22,7 @@ impl Model for Tree {
 
     ghost Value = { Kept };
 
-    ghost view = { λ t. t.flat };
+    ghost view = { λ t. t.tree };
 }
 
 impl Tree {
@@ -31,8 +32,8 @@ impl Tree {
         ensures capacity { IfOk result (λ t. t.room ≡ capacity) }
         ensures empty { IfOk result (λ t. t.list ≡ []) }
     {
-        let flat = Flat::new(alloc, capacity)?;
-        Ok(Tree { flat })
+        let tree = SumTree::new(alloc, capacity)?;
+        Ok(Tree { tree })
     }
 }
 
@@ -43,25 +44,30 @@ impl Solver for Tree {
 
     ghost rule = { RunningSum };
 
-    ghost reach = { λ _. 0 };
+    ghost reach = { search_steps };
 
     fn make(alloc: Global, room: usize) -> Result<Tree, OutOfMemory> {
         Tree::new(alloc, room)
     }
 
     fn reset(&mut self, n: usize) {
-        self.flat.reset(n);
+        self.tree.reset(n);
     }
 
     fn set(&mut self, i: usize, p: u64) {
-        self.flat.set(i, p);
+        self.tree.set(i, p);
     }
 
     fn total(&self) -> u64 {
-        self.flat.total()
+        self.tree.total()
     }
 
     fn choose<L: Ledger>(&mut self, stream: &mut Stream, steps: &mut Steps<L>) -> Option<Chosen> {
-        self.flat.choose(stream)
+        let total = self.tree.total();
+        if total == 0 {
+            return None;
+        }
+        let target = stream.below_two(total);
+        Some(self.tree.find(target, steps))
     }
 }
