@@ -1,5 +1,5 @@
 -- The places of boxes of cells.
-use Rattle.std.proofs.Common.{◌≡◌, ℕ, zero, suc, ◌+◌, ◌-◌, ◌*◌, ◌%◌, ◌<◌, ◌≤◌, refl, sym, ap, subst, ◌∙◌, arith, List, map, length, get_or}
+use Rattle.std.proofs.Common.{◌≡◌, ℕ, zero, suc, ◌+◌, ◌-◌, ◌*◌, ◌%◌, ◌<◌, ◌≤◌, refl, sym, ap, subst, ◌∙◌, arith, map, length, get_or}
 use Rattle.std.specs.List.{All, range_with_len}
 use Rattle.std.proofs.lemmas.List.FromFn.{length-map-range_with_len, get_or-map-range_with_len}
 use Rattle.std.proofs.lemmas.List.Elements.{All-from_get_or}
@@ -38,10 +38,22 @@ id_back l i is = ap (id_of l) (sym (spot_back i l)) ∙ id_spot l (i + 1) is
 exists : (l : Layout) (i : ℕ) → i < sites_of l → IsId l (i + 1)
 exists l i less = record { some = omega arith; exists = omega arith }
 
+-- a lattice or a box with a site has cells in each dimension
+some_factors : (b x y z i : ℕ) → i < b * (x * y * z) → (0 < x) × (0 < y) × (0 < z)
+some_factors b zero y z i less = absurd (omega (arith, less, ap (λ n. b * (n * z)) (zero-mul y) ∙ ap (λ n. b * n) (zero-mul z) ∙ mul-zero b))
+some_factors b (suc x) zero z i less = absurd (omega (arith, less, ap (λ n. b * (n * z)) (mul-zero (suc x)) ∙ ap (λ n. b * n) (zero-mul z) ∙ mul-zero b))
+some_factors b (suc x) (suc y) zero i less = absurd (omega (arith, less, ap (λ n. b * n) (mul-zero (suc x * suc y)) ∙ mul-zero b))
+some_factors b (suc x) (suc y) (suc z) i less = (omega arith, omega arith, omega arith)
+
+pub some_sized : (l : Layout) (i : ℕ) → i < sites_of l → IsSized l
+some_sized l i less =
+    let some = some_factors (basis_of l.style) l.nx l.ny l.nz i less in
+    record { x = some.0; y = some.1; z = some.2; basis = some_basis l.style }
+
 -- each place of the whole box shows itself
-pub whole_shown : (l : Layout) → IsLattice l → (i : ℕ) → i < sites_of l → shown_at l (whole_box l) i ≡ i
-whole_shown l is i less =
-    let spot : IsSpot l (spot_at l i) = subst (λ (s : Spot). IsSpot l s) (spot_back i l) (spot_is l (i + 1) (sized l is) (exists l i less)) in
+pub whole_shown : (l : Layout) (i : ℕ) → i < sites_of l → shown_at l (whole_box l) i ≡ i
+whole_shown l i less =
+    let spot : IsSpot l (spot_at l i) = subst (λ (s : Spot). IsSpot l s) (spot_back i l) (spot_is l (i + 1) (some_sized l i less) (exists l i less)) in
     let site : id_of l (wrapped_spot l (spot_from (whole_box l) (spot_at l i))) ≡ id_of l (spot_at l i) = ap (id_of l) (whole_spot l (spot_at l i) spot) in
     let id : id_of l (spot_at l i) ≡ i + 1 = id_back l i (exists l i less) in
     ap (λ (m : Layout). id_of l (wrapped_spot l (spot_from (whole_box l) (spot_at m i))) - 1) (whole_layout l) ∙ omega (arith, site, id)
@@ -58,21 +70,9 @@ pub whole_places : (l : Layout) → IsLattice l → places_of l (whole_box l) �
 unfolding places_of
 whole_places l is =
     ap (λ (m : Layout). map (shown_at l (whole_box l)) (range_with_len 0 (sites_of m))) (whole_layout l)
-    ∙ map_range (shown_at l (whole_box l)) 0 (sites_of l) (λ i from less. whole_shown l is i (omega arith))
+    ∙ map_range (shown_at l (whole_box l)) 0 (sites_of l) (λ i from less. whole_shown l i (omega arith))
 
 -- A site of a box of the lattice's own cells, and its number among the box's sites, undo each other.
-
--- a lattice or a box with a site has cells in each dimension
-some_factors : (b x y z i : ℕ) → i < b * (x * y * z) → (0 < x) × (0 < y) × (0 < z)
-some_factors b zero y z i less = absurd (omega (arith, less, ap (λ n. b * (n * z)) (zero-mul y) ∙ ap (λ n. b * n) (zero-mul z) ∙ mul-zero b))
-some_factors b (suc x) zero z i less = absurd (omega (arith, less, ap (λ n. b * (n * z)) (mul-zero (suc x)) ∙ ap (λ n. b * n) (zero-mul z) ∙ mul-zero b))
-some_factors b (suc x) (suc y) zero i less = absurd (omega (arith, less, ap (λ n. b * n) (mul-zero (suc x * suc y)) ∙ mul-zero b))
-some_factors b (suc x) (suc y) (suc z) i less = (omega arith, omega arith, omega arith)
-
-pub some_sized : (l : Layout) (i : ℕ) → i < sites_of l → IsSized l
-some_sized l i less =
-    let some = some_factors (basis_of l.style) l.nx l.ny l.nz i less in
-    record { x = some.0; y = some.1; z = some.2; basis = some_basis l.style }
 
 -- no box has more sites than the lattice
 pub box_few : (l : Layout) (b : CellBox) → IsBoxIn l b → sites_of (layout_of l b) ≤ sites_of l

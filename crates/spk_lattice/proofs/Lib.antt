@@ -7,6 +7,7 @@ pub mod Hops
 pub mod Merges
 pub mod Points
 pub mod Reaching
+pub mod Reciprocals
 pub mod Room
 pub mod Rows
 pub mod Spots

@@ -8,12 +8,12 @@ use Rattle.std.specs.Prelude.{Contains, Bool, ◌&&◌, ◌||◌, ◌==◌, nat_
 use Rattle.spk_lattice.specs.declared.table.Row.{Row}
 use Rattle.spk_lattice.specs.declared.table.Step.{Step}
 use Rattle.spk_lattice.specs.Layout.{Layout, IsLattice, basis_of, dimensions_of}
-use Rattle.spk_lattice.specs.Neighbours.{Spot, IsSpot, IsId, Offset, id_of, spot_of, wrapped, moved, offsets, nb}
+use Rattle.spk_lattice.specs.Neighbours.{Spot, IsSpot, IsId, Offset, id_of, spot_of, wrapped, moved, offsets, degree_of, nb}
 use Rattle.spk_lattice.specs.Table.{is_between, is_inner, ahead, own, step_of, no_step, filled, table_of}
 use Rattle.spk_lattice.proofs.Tables.{IsGood, good, few}
 use Rattle.spk_lattice.proofs.Spots.{sized, basis_small, spot_is, id_spot, id_less, wrapped_inside, wrapped_stays}
 use Rattle.spk_lattice.proofs.Rows.{row_is}
-use Rattle.spk_lattice.proofs.Ways.{nb_is, no_offset, moved_is, length_is}
+use Rattle.spk_lattice.proofs.Ways.{nb_is, no_offset, moved_is, length_is, near_degree}
 
 and_both : (a b : Bool) → (a && b) ≡ true → (a ≡ true) × (b ≡ true)
 and_both true b is = (refl, is)
@@ -153,6 +153,28 @@ read_step l b k row d is less =
     let step = row_step l b k row d is less in
     step ∙ ap (λ (w : Step). step_of l b w.offset) (sym step)
 
+-- how many there are is the same for each site
+pub read_count : (l : Layout) (id k : ℕ) (s : Spot) (row : Row) → IsLattice l → IsId l id
+    → row ≡ filled (map (step_of l s.basis) (offsets l.style s.basis))
+    → s ≡ spot_of l id
+    → k < degree_of l.style
+    → k < row.count
+read_count l id k s row lattice exists is s_is less =
+    let count : row.count ≡ length (offsets l.style (spot_of l id).basis) = row_count l s.basis row is ∙ ap (λ (w : Spot). length (offsets l.style w.basis)) s_is in
+    omega (arith, less, count, length_is l id, near_degree l id lattice exists)
+
+pub read_one : (l : Layout) (id k v : ℕ) (s : Spot) (row : Row) (d : Step)
+    → row ≡ filled (map (step_of l s.basis) (offsets l.style s.basis))
+    → k < row.count
+    → s ≡ spot_of l id
+    → v ≡ id_of l (moved l s (get_or row.steps k d).offset)
+    → v ≡ get_or (nb l id) k 0
+read_one l id k v s row d is less s_is v_is =
+    let count : row.count ≡ length (offsets l.style (spot_of l id).basis) = row_count l s.basis row is ∙ ap (λ (w : Spot). length (offsets l.style w.basis)) s_is in
+    let within : k < length (offsets l.style (spot_of l id).basis) = omega (arith, count) in
+    let offset : (get_or row.steps k d).offset ≡ get_or (offsets l.style s.basis) k no_offset = ap (λ (w : Step). w.offset) (row_step l s.basis k row d is less) in
+    v_is ∙ ap (λ (o : Offset). id_of l (moved l s o)) offset ∙ ap (λ (w : Spot). id_of l (moved l w (get_or (offsets l.style w.basis) k no_offset))) s_is ∙ sym (nb_at l id k within)
+
 pub read_next : (l : Layout) (id k v : ℕ) (s : Spot) (row : Row) (d : Step) (ids : List ℕ)
     → row ≡ filled (map (step_of l s.basis) (offsets l.style s.basis))
     → k < row.count
@@ -163,12 +185,9 @@ pub read_next : (l : Layout) (id k v : ℕ) (s : Spot) (row : Row) (d : Step) (i
     → take (k + 1) (set ids k v) ≡ take (k + 1) (nb l id)
 read_next l id k v s row d ids is less s_is all so_far v_is =
     let count : row.count ≡ length (offsets l.style (spot_of l id).basis) = row_count l s.basis row is ∙ ap (λ (w : Spot). length (offsets l.style w.basis)) s_is in
-    let within : k < length (offsets l.style (spot_of l id).basis) = omega (arith, count) in
     let room : k < length ids = omega (arith, read_few l s.basis row is) in
-    let near : k < length (nb l id) = omega (arith, length_is l id) in
-    let offset : (get_or row.steps k d).offset ≡ get_or (offsets l.style s.basis) k no_offset = ap (λ (w : Step). w.offset) (row_step l s.basis k row d is less) in
-    let there : v ≡ get_or (nb l id) k 0 =
-    v_is ∙ ap (λ (o : Offset). id_of l (moved l s o)) offset ∙ ap (λ (w : Spot). id_of l (moved l w (get_or (offsets l.style w.basis) k no_offset))) s_is ∙ sym (nb_at l id k within) in
+    let near : k < length (nb l id) = omega (arith, count, length_is l id) in
+    let there : v ≡ get_or (nb l id) k 0 = read_one l id k v s row d is less s_is v_is in
     next_id (nb l id) ids k v room near so_far there
 
 pub read_all : (l : Layout) (id k : ℕ) (s : Spot) (row : Row) (ids : List ℕ)

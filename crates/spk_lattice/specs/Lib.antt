@@ -1,9 +1,10 @@
-pub mod Styles
+pub mod Boxes
+pub mod Hops
 pub mod Layout
 pub mod Neighbours
-pub mod Table
-pub mod Hops
-pub mod Spread
 pub mod Regions
 pub mod Shapes
-pub mod Boxes
+pub mod Sites
+pub mod Spread
+pub mod Styles
+pub mod Table

@@ -1,10 +1,11 @@
 //! The cells of a lattice, and the ids of its sites.
 
-ghost use Rattle.std.specs.Prelude.{◌≡◌, ◌≤◌, ◌<◌, ◌∷◌, [], IsTrue, pos, ◌-ℤ◌};
+ghost use Rattle.std.specs.Prelude.{◌≡◌, ◌≤◌, ◌<◌, ◌/◌, ◌%◌, ◌∷◌, [], IsTrue, pos, ◌-ℤ◌};
 ghost use Rattle.spk_lattice.specs.Layout.{IsLattice, sites_of, dimensions_of, basis_of};
 ghost use Rattle.spk_lattice.specs.Neighbours.{IsId, IsSpot, id_of, spot_of, wrapped, moved};
 ghost use Rattle.spk_lattice.specs.Table.{is_between, is_inner, ahead, own};
 
+use crate::divisor::Divisor;
 use crate::style_row::style_row;
 use crate::table::Offset;
 use spk_num::Style;
@@ -27,6 +28,9 @@ pub struct Grid {
     nx: u32,
     ny: u32,
     nz: u32,
+    by_points: Divisor,
+    by_nx: Divisor,
+    by_ny: Divisor,
 }
 
 impl Model for Grid {
@@ -37,11 +41,30 @@ impl Model for Grid {
 
     ghost view = { λ g. record { style = g.style; nx = g.nx; ny = g.ny; nz = g.nz } };
 
-    ghost invariant = { λ g. IsLattice (record { style = g.style; nx = g.nx; ny = g.ny; nz = g.nz }) × (basis_of g.style ≡ g.points) };
+    ghost invariant = { λ g. IsLattice (record { style = g.style; nx = g.nx; ny = g.ny; nz = g.nz }) × (basis_of g.style ≡ g.points)
+        × (basis_of g.style ≡ g.by_points) × (g.nx ≡ g.by_nx) × (g.ny ≡ g.by_ny) };
 
-    ghost inverse = { λ d. record { style = d.style; points = basis_of d.style; nx = d.nx; ny = d.ny; nz = d.nz } };
+    ghost inverse = { λ d. record {
+      style = d.style;
+      points = basis_of d.style;
+      nx = d.nx;
+      ny = d.ny;
+      nz = d.nz;
+      by_points = basis_of d.style;
+      by_nx = d.nx;
+      by_ny = d.ny;
+    } };
 
-    ghost inverse_ok = { λ g is i. record { style = g.style; points = is.1 i; nx = g.nx; ny = g.ny; nz = g.nz } };
+    ghost inverse_ok = { λ g is i. record {
+      style = g.style;
+      points = is.1 i;
+      nx = g.nx;
+      ny = g.ny;
+      nz = g.nz;
+      by_points = is.2 i;
+      by_nx = is.3 i;
+      by_ny = is.4 i;
+    } };
 }
 
 /// A coordinate after a move by d - 1, where the last cell touches the first.
@@ -82,6 +105,9 @@ impl Grid {
             nx,
             ny,
             nz,
+            by_points: Divisor::new(points),
+            by_nx: Divisor::new(nx),
+            by_ny: Divisor::new(ny),
         }
     }
 
@@ -135,14 +161,10 @@ impl Grid {
         ensures spot { result ≡ spot_of self.now id }
         ensures exists { IsSpot self.now result }
     {
-        let place = id - 1;
-        let cell = place / self.points;
-        Spot {
-            x: cell % self.nx,
-            y: cell / self.nx % self.ny,
-            z: cell / self.nx / self.ny,
-            basis: place % self.points,
-        }
+        let (cell, basis) = self.by_points.split(id - 1);
+        let (row, x) = self.by_nx.split(cell);
+        let (z, y) = self.by_ny.split(row);
+        Spot { x, y, z, basis }
     }
 
     /// No neighbour of this spot lies across a rim.

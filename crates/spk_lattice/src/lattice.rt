@@ -1,14 +1,15 @@
 //! A periodic lattice by its style and extents.
 
-ghost use Rattle.std.specs.Prelude.{◌≡◌, ◌≤◌, ◌+◌, ◌*◌, ◌∷◌, [], pos, All};
+ghost use Rattle.std.specs.Prelude.{◌≡◌, ◌<◌, ◌≤◌, length, slice_index, ◌+◌, ◌*◌, ◌∷◌, [], pos, All};
 ghost use Rattle.spk_lattice.specs.Layout.{IsLattice, lattice_of, sites_of, dimensions_of, basis_of};
 ghost use Rattle.spk_lattice.specs.Shapes.{IsPoint};
+ghost use Rattle.spk_lattice.specs.Sites.{IsSite};
 ghost use Rattle.spk_lattice.specs.Neighbours.{IsId, IsSpot, spot_in, id_of, spot_of, place_of, point_of, coordinates, degree_of, ids_of, nb};
 
 use crate::grid::{Grid, Spot};
 use crate::neighbours::Neighbours;
 use crate::place::Place;
-use crate::reach;
+use crate::reach::{self, Site};
 use crate::style_row::style_row;
 use crate::table::{Row, basis_point, table_of};
 use spk_num::Style;
@@ -173,6 +174,26 @@ impl Lattice {
         reach::neighbours(&self.grid, &self.table, id)
     }
 
+    /// The site with an id, by which its neighbours are found one after another.
+    pub fn site(&self, id: u32) -> Site
+        requires { IsId self.now id }
+        ensures site { IsSite self.now result }
+        ensures id { result.id ≡ id }
+        ensures degree { length (nb self.now id) ≡ degree_of self.now.style }
+    {
+        reach::site_of(&self.grid, id)
+    }
+
+    /// The neighbour of a site at a place in the list of its neighbours.
+    pub fn neighbour(&self, site: &Site, k: usize) -> u32
+        requires site { IsSite self.now site.now }
+        requires k { k < degree_of self.now.style }
+        ensures id { result ≡ slice_index (nb self.now site.now.id) k }
+        ensures exists { IsId self.now result }
+    {
+        reach::neighbour(&self.grid, &self.table, site, k)
+    }
+
     /// The three coordinates of a site, in half units.
     fn coordinates(&self, id: u32) -> [i64; 3]
         requires { IsId self.now id }
@@ -264,5 +285,16 @@ mod tests {
         assert_eq!(rt; square.as_slice(), [9, 7, 8, 3, 2, 6, 4, 5].as_slice());
         let cubic = made(&rt, Style::Bcc, 3, 3, 3).neighbours(1);
         assert_eq!(rt; cubic.as_slice(), [54, 50, 42, 38, 18, 14, 6, 2].as_slice());
+    }
+
+    #[test]
+    fn finds_neighbours_one_after_another(rt: HostRuntime) {
+        let lattice = made(&rt, Style::Sq8, 3, 3, 1);
+        let site = lattice.site(1);
+        let near = [9, 7, 8, 3, 2, 6, 4, 5];
+        for (k, want) in near.iter().enumerate() {
+            assert!(rt; k < lattice.degree() as usize);
+            assert_eq!(rt; lattice.neighbour(&site, k), *want, "at {k}");
+        }
     }
 }

@@ -2,6 +2,7 @@
 #![tactic(auto)]
 
 pub mod cells;
+mod divisor;
 mod grid;
 pub mod lattice;
 pub mod neighbours;
@@ -15,6 +16,7 @@ pub use cells::Cells;
 pub use lattice::{Lattice, LatticeFault};
 pub use neighbours::Neighbours;
 pub use place::Place;
+pub use reach::Site;
 pub use regions::{Block, RegionFault, Regions};
 pub use spk_num::{Bound, Shape, Style};
 pub use style_row::{basis_points, dimensions};
