@@ -1,3 +1,4 @@
+pub mod Dropping
 pub mod Frames
 pub mod Listed
 pub mod Places

@@ -1,5 +1,5 @@
 -- Weights read off a table.
-use Rattle.std.proofs.Common.{◌≡◌, ℕ, ◌+◌, ◌-◌, ◌^◌, ◌<◌, ◌≤◌, ◌++◌, List, [], ◌∷◌, length, get_or, set, take, false, refl, sym, ap, ◌∙◌, arith}
+use Rattle.std.proofs.Common.{◌≡◌, ℕ, zero, suc, ◌+◌, ◌-◌, ◌^◌, ◌<◌, ◌≤◌, ◌++◌, List, [], ◌∷◌, length, get_or, set, take, false, refl, sym, ap, ◌∙◌, arith}
 use Rattle.std.proofs.lemmas.Int.{ints}
 use Rattle.std.proofs.lemmas.List.{length-set, take_more, take_more_set, take_all}
 use Rattle.std.proofs.lemmas.List.FromFn.{length-map-range_with_len, get_or-map-range_with_len}
@@ -31,6 +31,24 @@ rising_at temperature rise less = get_or-map-range_with_len (λ rise. weight_of 
 pub rises : (temperature before after : ℕ) (weights : List ℕ) → rising_weights temperature ≡ weights → before < after → after ≤ 26 → get_or weights (after - before) 0 ≡ weight_between temperature before after
 rises temperature before after weights are less few =
     ap (λ (xs : List ℕ). get_or xs (after - before) 0) (sym are) ∙ rising_at temperature (after - before) (omega arith) ∙ ap (λ (d : ℤ). weight_of d temperature) (sym (rises_by before after (omega arith)))
+
+no_rise : (temperature : ℕ) → weight_of (pos 0) temperature ≡ 2 ^ 30
+unfolding weight_of
+no_rise temperature = refl
+
+doesnt_rise_by : (temperature before after : ℕ) (weights : List ℕ) → rising_weights temperature ≡ weights → after ≤ before → get_or weights (after - before) 0 ≡ weight_between temperature before after
+doesnt_rise_by temperature before after weights are less =
+    ap (λ n. get_or weights n 0) (omega arith) ∙ ap (λ (xs : List ℕ). get_or xs 0 0) (sym are) ∙ rising_at temperature 0 (omega arith) ∙ no_rise temperature ∙ falls temperature before after less
+
+by_rise : (temperature before after rise : ℕ) (weights : List ℕ) → after - before ≡ rise → rising_weights temperature ≡ weights → after ≤ 26
+    → get_or weights (after - before) 0 ≡ weight_between temperature before after
+by_rise temperature before after zero weights is are few = doesnt_rise_by temperature before after weights are (omega (arith, is))
+by_rise temperature before after (suc rise) weights is are few = rises temperature before after weights are (omega (arith, is)) few
+
+-- any event, by the table
+pub by_table : (temperature before after rise : ℕ) (weights : List ℕ) → rise ≡ after - before → rising_weights temperature ≡ weights → after ≤ 26
+    → get_or weights rise 0 ≡ weight_between temperature before after
+by_table temperature before after rise weights is are few = ap (λ n. get_or weights n 0) is ∙ by_rise temperature before after (after - before) weights refl are few
 
 pub between_small : (temperature before after weight : ℕ) → weight ≡ weight_between temperature before after → weight ≤ 2 ^ 30
 between_small temperature before after weight is = rw is (weight_small (pos after -ℤ pos before) temperature)

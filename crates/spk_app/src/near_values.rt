@@ -1,6 +1,6 @@
 //! The values of a site's neighbours.
 
-ghost use Rattle.std.specs.Prelude.{◌≡◌, ◌<◌, ◌++◌, [], ◌∷◌, length};
+ghost use Rattle.std.specs.Prelude.{◌≡◌, ◌<◌, ◌≤◌, ◌==◌, ◌++◌, [], ◌∷◌, IfNone, IfSome, drop, filter, length, not};
 
 use std::marker::Model;
 
@@ -41,9 +41,44 @@ impl NearValues {
         self.count += 1;
     }
 
+    /// How many values there are.
+    pub fn len(&self) -> u32
+        ensures count { result ≡ length self.now }
+        ensures few { result ≤ 26 }
+    {
+        self.count
+    }
+
+    /// The first value, if there is one.
+    pub fn first(&self) -> Option<u32>
+        ensures some { IfSome result (λ v. self.now ≡ v ∷ drop 1 self.now) }
+        ensures none { IfNone result (self.now ≡ []) }
+    {
+        if self.count == 0 {
+            None
+        } else {
+            Some(self.values[0])
+        }
+    }
+
+    /// Drops each one that is this value. The others keep their order. Nothing is skipped, as a jump that can't be foreseen takes
+    /// longer than to write a value that is overwritten.
+    pub fn drop_all(&mut self, value: u32)
+        ensures { self.new ≡ filter (λ v. not (v == value)) self.old }
+    {
+        let mut kept = 0;
+        'values: for k in 0..self.count as usize {
+            let other = self.values[k];
+            self.values[kept] = other;
+            kept += usize::from(other != value);
+        }
+        self.count = kept as u32;
+    }
+
     /// The values in their order.
     pub fn as_slice(&self) -> &[u32]
-        ensures { result.now ≡ self.now }
+        ensures values { result.now ≡ self.now }
+        ensures few { length result.now ≤ 26 }
     {
         &self.values[..self.count as usize]
     }
@@ -61,5 +96,20 @@ mod tests {
         values.push(3);
         values.push(7);
         assert_eq!(rt; values.as_slice(), [7, 3, 7].as_slice());
+    }
+
+    #[test]
+    fn drops_a_value(rt: HostRuntime) {
+        let mut values = NearValues::none();
+        assert_eq!(rt; values.first(), None);
+        for value in [7, 3, 7, 5] {
+            assert!(rt; values.len() < 26);
+            values.push(value);
+        }
+        assert_eq!(rt; values.len(), 4);
+        assert_eq!(rt; values.first(), Some(7));
+        values.drop_all(7);
+        assert_eq!(rt; values.as_slice(), [3, 5].as_slice());
+        assert_eq!(rt; values.first(), Some(3));
     }
 }

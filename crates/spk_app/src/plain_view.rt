@@ -56,15 +56,16 @@ pub fn places_beside(lattice: &Lattice, place: usize) -> Neighbours
     ensures inside { All (λ j. j < sites_of lattice.now) (places_beside lattice.now place) }
 {
     lattice.known();
-    let near = lattice.neighbours(place as u32 + 1);
-    let mut ids = [0; 26];
-    for (k, id) in near.as_slice().iter().enumerate() {
-        ids[k] = *id - 1;
+    let site = lattice.site(place as u32 + 1);
+    let count = lattice.degree();
+    let mut near = Neighbours {
+        count,
+        ids: [0; 26],
+    };
+    'near: for k in 0..count as usize {
+        near.ids[k] = lattice.neighbour(&site, k) - 1;
     }
-    Neighbours {
-        count: near.count,
-        ids,
-    }
+    near
 }
 
 impl View for PlainView {

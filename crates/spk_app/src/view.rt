@@ -1,6 +1,6 @@
 //! Views: sites with their values, by places of the view's own.
 
-ghost use Rattle.std.specs.Prelude.{◌≡◌, ℕ, ◌<◌, ◌≤◌, length, slice_index, All, List, Bool, IsTrue};
+ghost use Rattle.std.specs.Prelude.{◌≡◌, ℕ, ◌<◌, ◌≤◌, length, slice_index, All, List, Bool, IsTrue, []};
 ghost use Rattle.spk_lattice.specs.Neighbours.{ids_of};
 ghost use Rattle.spk_app.specs.Sights.{Sight, values_near, with_value};
 
@@ -38,17 +38,16 @@ pub trait View {
         ensures ids { ids_of result ≡ (sight self.now).near i }
         ensures inside { All (λ j. j < length (sight self.now).values) ((sight self.now).near i) };
 
-    /// The values at these places, at once.
-    fn values_near(&self, i: usize) -> NearValues
+    /// Reads the values at these places, at once.
+    fn read_near(&self, i: usize, near: &mut NearValues)
         requires place { i < length (sight self.now).values }
         requires whole { IsTrue (whole self.now i) }
-        ensures { result ≡ values_near (sight self.now) i }
+        requires empty { near.old ≡ [] }
+        ensures { near.new ≡ values_near (sight self.now) i }
     {
-        let near = self.neighbours(i);
-        let mut values = NearValues::none();
-        for j in near.as_slice() {
-            values.push(self.value(*j as usize));
+        let places = self.neighbours(i);
+        for j in places.as_slice() {
+            near.push(self.value(*j as usize));
         }
-        values
     }
 }

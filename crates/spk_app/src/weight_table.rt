@@ -7,9 +7,6 @@ ghost use Rattle.spk_app.specs.Weights.{weight_between};
 use spk_num::weight;
 use std::marker::Model;
 
-/// The weight of an event that doesn't raise the energy, in units of 2^-30.
-const WHOLE_WEIGHT: u32 = 1 << 30;
-
 /// How many rises of the energy there are, from 0 to 26.
 const RISES: usize = 27;
 
@@ -64,11 +61,7 @@ impl WeightTable {
         ensures weight { result ≡ weight_between self.now before after }
         ensures small { result ≤ 2 ^ 30 }
     {
-        if after <= before {
-            WHOLE_WEIGHT
-        } else {
-            self.weights[(after - before) as usize]
-        }
+        self.weights[after.saturating_sub(before) as usize]
     }
 }
 

@@ -1,2 +1,3 @@
 pub mod Coordinates
+pub mod NearValues
 pub mod Whole

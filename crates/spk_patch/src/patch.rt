@@ -7,7 +7,7 @@ ghost use Rattle.spk_lattice.specs.Boxes.{IsBoxOf, box_of_cells, whole_box};
 ghost use Rattle.spk_patch.specs.Patches.{IsCell, IsPatch, PatchSites, basis_shown, cell_shown, is_whole, near_of};
 ghost use Rattle.spk_patch.specs.Patches.{patch_frame, place_at, place_count, showing, sight_of};
 
-use spk_app::{Neighbours, View, places_beside};
+use spk_app::{NearValues, Neighbours, View, places_beside};
 use spk_lattice::{Cells, Lattice};
 use std::alloc::{AllocError, Global};
 use std::marker::Model;
@@ -151,6 +151,14 @@ impl View for Patch {
 
     fn neighbours(&self, i: usize) -> Neighbours {
         places_beside(&self.lattice, i)
+    }
+
+    fn read_near(&self, i: usize, near: &mut NearValues) {
+        let site = self.lattice.site(i as u32 + 1);
+        'near: for k in 0..self.lattice.degree() as usize {
+            let id = self.lattice.neighbour(&site, k);
+            near.push(self.values[id as usize - 1]);
+        }
     }
 }
 

@@ -17,7 +17,7 @@ pub record FirstOthers (own : ℕ) (near : List ℕ) (k : ℕ) (others : List �
 abbrev pub is_in : List ℕ → ℕ → Bool
 is_in values v = list_any (λ u. u == v) values
 
-first_step : (seen : List ℕ) (v : ℕ) (vs : List ℕ) (b : Bool) → is_in seen v ≡ b → first_values seen (v ∷ vs) ≡ (if b then first_values seen vs else v ∷ first_values (seen ++ v ∷ []) vs)
+pub first_step : (seen : List ℕ) (v : ℕ) (vs : List ℕ) (b : Bool) → is_in seen v ≡ b → first_values seen (v ∷ vs) ≡ (if b then first_values seen vs else v ∷ first_values (seen ++ v ∷ []) vs)
 first_step seen v vs b is = ap (λ x. if x then first_values seen vs else v ∷ first_values (seen ++ v ∷ []) vs) is
 
 next_first : (own k : ℕ) (near others : List ℕ) (b : Bool)

@@ -3,7 +3,7 @@
 ghost use Rattle.std.specs.Prelude.{◌≡◌, ◌<◌, ◌≤◌, IsTrue, length};
 ghost use Rattle.spk_potts.specs.Energies.{energy_of, unlike, weight_to};
 
-use spk_app::{View, WeightTable};
+use spk_app::{NearValues, View, WeightTable};
 
 /// How many of these values differ from a site's own.
 pub(crate) fn unlike(own: u32, near: &[u32]) -> u32
@@ -11,7 +11,11 @@ pub(crate) fn unlike(own: u32, near: &[u32]) -> u32
     ensures count { result ≡ unlike own near.now }
     ensures few { result ≤ 26 }
 {
-    near.iter().filter(|value| **value != own).count() as u32
+    let mut count = 0;
+    for value in near {
+        count += u32::from(*value != own);
+    }
+    count
 }
 
 /// The weight of taking a value, in units of 2^-30, where the site has its own and its neighbours have these.
@@ -28,6 +32,7 @@ pub(crate) fn energy_of<V: View>(view: &V, i: usize) -> u32
     requires whole { IsTrue (V.whole view.now i) }
     ensures { result ≡ energy_of (V.sight view.now) i }
 {
-    let near = view.values_near(i);
+    let mut near = NearValues::none();
+    view.read_near(i, &mut near);
     unlike(view.value(i), near.as_slice())
 }

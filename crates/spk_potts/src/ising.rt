@@ -1,13 +1,13 @@
 //! Ising: each site has one of the values 1 and 2. Energies and events are modelled on SPPARKS's manual.
 
-ghost use Rattle.std.specs.Prelude.{◌≡◌, ◌-◌, ◌≤◌, length};
-ghost use Rattle.spk_app.specs.Applications.{listed};
+ghost use Rattle.std.specs.Prelude.{◌≡◌, ◌-◌, ◌^◌, ◌≤◌, length};
+ghost use Rattle.spk_app.specs.Applications.{listed, propensity};
 ghost use Rattle.spk_potts.specs.Ising.{ising, ising_events, other_value};
 ghost use Rattle.spk_potts.specs.IsingLaws.{ising_local, ising_bounded, ising_narrow, ising_stays_valid};
 
 use crate::energy::{energy_of, weight_to};
 use crate::proposal::{WHOLE_WEIGHT, propose};
-use spk_app::{App, Events, Steps, View, WeightTable};
+use spk_app::{App, Events, NearValues, Steps, View, WeightTable};
 use spk_lattice::{Lattice, Style};
 use spk_num::Stream;
 use std::marker::Model;
@@ -54,6 +54,17 @@ fn events_of(own: u32, near: &[u32], weights: &WeightTable) -> Events
     events
 }
 
+/// The weight of a site's event.
+#[tactic(auto, using(crate::proofs::Propensities::propensity_one))]
+fn propensity_of(own: u32, near: &[u32], weights: &WeightTable) -> u64
+    requires own { own ≤ 3 }
+    requires few { length near.now ≤ 26 }
+    ensures sum { result ≡ propensity (ising_events weights.now own near.now) }
+    ensures limit { result ≤ 2 ^ 35 }
+{
+    u64::from(weight_to(weights, own, other_value(own), near))
+}
+
 impl Ising {
     /// Ising sites on a lattice, at the temperature `t` in millionths of the energy of a pair of unlike neighbours.
     pub fn new(single: bool, lattice: &Lattice, t: u64) -> Ising
@@ -94,8 +105,16 @@ impl App for Ising {
 
     fn events<V: View, L: Ledger>(&self, view: &V, i: usize, steps: &mut Steps<L>) -> Events {
         steps.tick();
-        let near = view.values_near(i);
+        let mut near = NearValues::none();
+        view.read_near(i, &mut near);
         events_of(view.value(i), near.as_slice(), &self.weights)
+    }
+
+    fn propensity<V: View, L: Ledger>(&self, view: &V, i: usize, steps: &mut Steps<L>) -> u64 {
+        steps.tick();
+        let mut near = NearValues::none();
+        view.read_near(i, &mut near);
+        propensity_of(view.value(i), near.as_slice(), &self.weights)
     }
 
     fn apply<V: View>(&self, view: &mut V, i: usize, mark: u32) {

@@ -1,7 +1,7 @@
 //! Potts: each site has one of the values 1 to q. Energies and events are modelled on SPPARKS's manual.
 
 ghost use Rattle.std.specs.Prelude.{◌≡◌, ◌^◌, ◌*◌, ◌<◌, ◌≤◌, IsTrue, length};
-ghost use Rattle.spk_app.specs.Applications.{listed};
+ghost use Rattle.spk_app.specs.Applications.{listed, propensity};
 ghost use Rattle.spk_app.specs.Sights.{with_written};
 ghost use Rattle.spk_potts.specs.Potts.{near_trial, other_values, potts, potts_events};
 ghost use Rattle.spk_potts.specs.PottsLaws.{potts_bounded, potts_local, potts_narrow, potts_stays_valid};
@@ -72,6 +72,27 @@ fn events_of(own: u32, near: &[u32], weights: &WeightTable) -> Events
     events
 }
 
+/// The sum of the weights of a site's events, value after value.
+fn propensity_of(own: u32, near: &mut NearValues, weights: &WeightTable) -> u64
+    ensures sum { result ≡ propensity (potts_events weights.now own near.old) }
+    ensures limit { result ≤ 2 ^ 35 }
+{
+    let degree = near.len();
+    near.drop_all(own);
+    let before = near.len();
+    let mut sum = 0;
+    'kinds: for _ in 0..degree {
+        let Some(value) = near.first() else {
+            return sum;
+        };
+        let left = near.len();
+        near.drop_all(value);
+        let alike = left - near.len();
+        sum += u64::from(weights.between(before, degree - alike));
+    }
+    sum
+}
+
 /// A trial that proposes one of the values of the site's events, if there is one. Says whether the site took it.
 fn near_trial<V: View>(view: &mut V, i: usize, weights: &WeightTable, stream: &mut Stream) -> bool
     requires place { i < length (V.sight view.old).values }
@@ -83,8 +104,9 @@ fn near_trial<V: View>(view: &mut V, i: usize, weights: &WeightTable, stream: &m
     ensures whole { V.whole view.new ≡ V.whole view.old }
 {
     let own = view.value(i);
-    let near = view.values_near(i);
-    let near = near.as_slice();
+    let mut read = NearValues::none();
+    view.read_near(i, &mut read);
+    let near = read.as_slice();
     let others = other_values(own, near);
     let others = others.as_slice();
     if others.is_empty() {
@@ -138,8 +160,16 @@ impl App for Potts {
 
     fn events<V: View, L: Ledger>(&self, view: &V, i: usize, steps: &mut Steps<L>) -> Events {
         steps.tick();
-        let near = view.values_near(i);
+        let mut near = NearValues::none();
+        view.read_near(i, &mut near);
         events_of(view.value(i), near.as_slice(), &self.weights)
+    }
+
+    fn propensity<V: View, L: Ledger>(&self, view: &V, i: usize, steps: &mut Steps<L>) -> u64 {
+        steps.tick();
+        let mut near = NearValues::none();
+        view.read_near(i, &mut near);
+        propensity_of(view.value(i), &mut near, &self.weights)
     }
 
     fn apply<V: View>(&self, view: &mut V, i: usize, mark: u32) {

@@ -5,7 +5,7 @@ ghost use Rattle.spk_app.specs.Sights.{with_written};
 ghost use Rattle.spk_potts.specs.Trials.{accepted, judged, proposed, rejected};
 
 use crate::energy::weight_to;
-use spk_app::{View, WeightTable};
+use spk_app::{NearValues, View, WeightTable};
 use spk_num::Stream;
 
 /// The weight of a value that is always accepted, in units of 2^-30.
@@ -64,7 +64,8 @@ pub(crate) fn propose<V: View>(
     if value == own {
         return false;
     }
-    let near = view.values_near(i);
+    let mut near = NearValues::none();
+    view.read_near(i, &mut near);
     let weight = weight_to(weights, own, value, near.as_slice());
     judge(view, i, value, weight, stream)
 }

@@ -1,5 +1,9 @@
+use Rattle.std.proofs.Common.{◌≡◌}
 use Rattle.spk_app.proofs.Places.{FirstPlaces}
 use Rattle.spk_app.proofs.plain_view.places_beside.Given as goal
 
-abbrev pub invariant-loop-k : goal.invariant-loop-k
-invariant-loop-k l = FirstPlaces l.lattice l.place l.k l.ids
+abbrev pub invariant-near : goal.invariant-near
+invariant-near l = record {
+  so_far : FirstPlaces l.lattice l.place l.k l.near.ids;
+  count : l.near.count ≡ l.count;
+}

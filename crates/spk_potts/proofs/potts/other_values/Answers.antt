@@ -12,11 +12,11 @@ near-preserved c =
     let Next : List ℕ → Type 0 = FirstOthers c.args.own near (k + 1) in
     elim c.if-value-own.branch [
       | then-value-own+then-not-contains w ↦
-          let new : is_in others v ≡ false = ap (λ (xs : List ℕ). is_in xs v) (sym w.as_slice.ensures) ∙ sym w.contains.ensures.value ∙ w.if-not-contains.true in
+          let new : is_in others v ≡ false = ap (λ (xs : List ℕ). is_in xs v) (sym w.as_slice.ensures.values) ∙ sym w.contains.ensures.value ∙ w.if-not-contains.true in
           subst Next (sym (w.others-is ∙ w.push.ensures)) (seen_first c.args.own k near others c.near-test.true w.if-value-own.true new c.near.invariant)
       | else-value-own w ↦ elim w.else-value-own.branch [
         | else-value-own-via-then-value-own+else-not-contains w' ↦
-            let old : is_in others v ≡ true = ap (λ (xs : List ℕ). is_in xs v) (sym w'.as_slice.ensures) ∙ sym w'.contains.ensures.value ∙ w'.if-not-contains.false in
+            let old : is_in others v ≡ true = ap (λ (xs : List ℕ). is_in xs v) (sym w'.as_slice.ensures.values) ∙ sym w'.contains.ensures.value ∙ w'.if-not-contains.false in
             subst Next (sym w.others-is) (seen_other c.args.own k near others c.near-test.true old c.near.invariant)
         | else-value-own-via-else-value-own w' ↦ subst Next (sym w.others-is) (seen_own c.args.own k near others c.near-test.true w'.if-value-own.false c.near.invariant)
       ]

@@ -10,7 +10,7 @@ is_judged : (g : _) (c : goal.After-judge g)
     → proposed c.args.weights.now (g.V.View.sight c.args.view.now) c.args.i c.args.value c.args.stream.now ≡ judged c.args.i c.args.value c.weight_to-weight.result c.args.stream.now
 is_judged g c =
     proposed_other c.args.weights.now (g.V.View.sight c.args.view.now) c.args.i c.value-own.result c.args.value c.weight_to-weight.result c.args.stream.now c.as_slice.result.now
-    c.value-own.ensures c.if-value-own.false (c.as_slice.ensures ∙ c.values_near-near.ensures) c.weight_to-weight.ensures
+    c.value-own.ensures c.if-value-own.false (c.as_slice.ensures.values ∙ c.read_near.ensures) c.weight_to-weight.ensures
 
 pub returns-clause-sight : goal.returns-clause-sight
 returns-clause-sight g c =

@@ -1,6 +1,0 @@
-use Rattle.std.proofs.Common.{◌≡◌, take, map}
-use Rattle.std.specs.Prelude.{slice_index}
-use Rattle.spk_app.proofs.view.View.values_near.Given as goal
-
-abbrev pub invariant-loop-j : goal.invariant-loop-j
-invariant-loop-j g l = l.values ≡ map (slice_index (g.Self.View.sight l.self).values) (take l.j-index l.j-items)
