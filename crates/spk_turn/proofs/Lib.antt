@@ -6,11 +6,12 @@ pub mod Gathering
 pub mod Hops
 pub mod Levels
 pub mod Listed
-pub mod Plain
 pub mod Names
 pub mod PatchSlots
 pub mod Patches
+pub mod Plain
 pub mod PlainPlaces
 pub mod SlotLaws
 pub mod Steps
 pub mod Sweeping
+pub mod WholeSlots

@@ -1,8 +1,9 @@
 //! The sites of a box of cells in a view, by their slots in a solver's list.
 
-ghost use Rattle.std.specs.Prelude.{◌≡◌, ◌-◌, ◌<◌, ◌≤◌};
+ghost use Rattle.std.specs.Prelude.{◌≡◌, ◌-◌, ◌<◌, ◌≤◌, IsTrue};
 ghost use Rattle.spk_lattice.specs.Layout.{sites_of};
-ghost use Rattle.spk_turn.specs.Slots.{AreSlots, IsSlotAt, place_of, slot_count, slots_of};
+ghost use Rattle.spk_turn.specs.Slots.{AreSlots, IsSlotAt, interval_of, place_of, slot_count, slots_of};
+ghost use Rattle.spk_lattice.specs.Boxes.{all_of};
 
 use spk_lattice::{Style, basis_points};
 use std::marker::Model;
@@ -23,10 +24,13 @@ pub struct Slots {
     x: Along,
     y: Along,
     z: Along,
+    /// Whether the box has all cells. Then slots are places.
+    all: bool,
 }
 
 impl Model for Slots {
-    ghost use Rattle.std.specs.Prelude.{◌≡◌};
+    ghost use Rattle.std.specs.Prelude.{◌≡◌, IsTrue};
+    ghost use Rattle.spk_lattice.specs.Boxes.{whole_box};
     ghost use Rattle.spk_lattice.specs.Layout.{basis_of};
     ghost use Rattle.spk_turn.specs.Slots.{BoxSlots, AreSlots, slots_of};
 
@@ -34,7 +38,8 @@ impl Model for Slots {
 
     ghost view = { λ s. slots_of s.style s.x s.y s.z };
 
-    ghost invariant = { λ s. AreSlots (slots_of s.style s.x s.y s.z) × (basis_of s.style ≡ s.points) };
+    ghost invariant = { λ s. AreSlots (slots_of s.style s.x s.y s.z) × (basis_of s.style ≡ s.points)
+        × (IsTrue s.all → (slots_of s.style s.x s.y s.z).cells ≡ whole_box (slots_of s.style s.x s.y s.z).view) };
 }
 
 impl Along {
@@ -45,6 +50,13 @@ impl Along {
     {
         self.to - self.from
     }
+
+    /// Whether the box has all cells.
+    fn has_all(&self) -> bool
+        ensures { IsTrue result → interval_of self.now ≡ all_of self.now.cells }
+    {
+        self.from == 0 && self.to == self.cells
+    }
 }
 
 impl Slots {
@@ -53,12 +65,14 @@ impl Slots {
         requires { AreSlots (slots_of style x y z) }
         ensures { result ≡ slots_of style x y z }
     {
+        let all = x.has_all() && y.has_all() && z.has_all();
         Slots {
             style,
             points: basis_points(style),
             x,
             y,
             z,
+            all,
         }
     }
 
@@ -85,6 +99,31 @@ impl Slots {
         ensures place { result ≡ place_of self.now slot }
         ensures inside { result < sites_of self.now.view }
     {
+        if self.all {
+            slot
+        } else {
+            self.place_in_box(slot)
+        }
+    }
+
+    /// The slot of the site at a place, if the box has it.
+    pub fn slot(&self, place: usize) -> Option<usize>
+        requires { place < sites_of self.now.view }
+        ensures { IsSlotAt self.now place result }
+    {
+        if self.all {
+            Some(place)
+        } else {
+            self.slot_in_box(place)
+        }
+    }
+
+    /// The place of the site with a slot, by its cell.
+    fn place_in_box(&self, slot: usize) -> usize
+        requires { slot < slot_count self.now }
+        ensures place { result ≡ place_of self.now slot }
+        ensures inside { result < sites_of self.now.view }
+    {
         let points = self.points;
         let slot = slot as u32;
         let cell = slot / points;
@@ -96,8 +135,8 @@ impl Slots {
         (slot % points + points * (x + self.x.cells * (y + self.y.cells * z))) as usize
     }
 
-    /// The slot of the site at a place, if the box has it.
-    pub fn slot(&self, place: usize) -> Option<usize>
+    /// The slot of the site at a place, by its cell.
+    fn slot_in_box(&self, place: usize) -> Option<usize>
         requires { place < sites_of self.now.view }
         ensures { IsSlotAt self.now place result }
     {

@@ -1,67 +1,19 @@
-use Rattle.std.proofs.Common.{◌<◌, ◌∙◌, sym, ap, subst, arith}
+use Rattle.std.proofs.Common.{◌≡◌, ◌<◌, sym, ap, ◌∙◌, subst}
 use Rattle.spk_lattice.specs.Layout.{sites_of}
 use Rattle.spk_turn.specs.Slots.{BoxSlots, place_of, slot_count, slots_of}
-use Rattle.spk_turn.proofs.SlotLaws.{count_small, placed}
+use Rattle.spk_turn.proofs.WholeSlots.{all_inside, same_place}
 use Rattle.spk_turn.proofs.slots.Slots.place.Goals as goal
 
-pub overflow_cast-slot : goal.overflow_cast-slot
-overflow_cast-slot c =
-    let most = count_small (slots_of c.self.inside.style c.self.inside.x c.self.inside.y c.self.inside.z) c.self.invariant.0 in
+pub returns-then-self-clause-place : goal.returns-then-self-clause-place
+returns-then-self-clause-place c =
+    let box : BoxSlots = slots_of c.self.inside.style c.self.inside.x c.self.inside.y c.self.inside.z in
+    let whole = c.self.invariant.2 c.if-self.true in
     let less : c.args.slot < slot_count (slots_of c.self.inside.style c.self.inside.x c.self.inside.y c.self.inside.z) = subst (λ (s : BoxSlots). c.args.slot < slot_count s) (sym c.self.view_is) c.requires in
-    omega (arith, most, less)
+    sym (same_place box c.args.slot whole (subst (λ n. c.args.slot < n) (all_inside box whole) less)) ∙ ap (λ (s : BoxSlots). place_of s c.args.slot) c.self.view_is
 
-pub overflow_add-x : goal.overflow_add-x
-overflow_add-x c =
-    let at = placed (slots_of c.self.inside.style c.self.inside.x c.self.inside.y c.self.inside.z) c.self.inside.points c.width-wide.result c.width-high.result c.args.slot c.self.invariant.0 c.self.invariant.1 c.width-wide.ensures c.width-high.ensures (subst (λ (s : BoxSlots). c.args.slot < slot_count s) (sym c.self.view_is) c.requires) in
-    omega (arith, at.small.cell)
-
-pub overflow_add-y : goal.overflow_add-y
-overflow_add-y c =
-    let at = placed (slots_of c.self.inside.style c.self.inside.x c.self.inside.y c.self.inside.z) c.self.inside.points c.width-wide.result c.width-high.result c.args.slot c.self.invariant.0 c.self.invariant.1 c.width-wide.ensures c.width-high.ensures (subst (λ (s : BoxSlots). c.args.slot < slot_count s) (sym c.self.view_is) c.requires) in
-    omega (arith, at.small.row)
-
-pub overflow_add-z : goal.overflow_add-z
-overflow_add-z c =
-    let at = placed (slots_of c.self.inside.style c.self.inside.x c.self.inside.y c.self.inside.z) c.self.inside.points c.width-wide.result c.width-high.result c.args.slot c.self.invariant.0 c.self.invariant.1 c.width-wide.ensures c.width-high.ensures (subst (λ (s : BoxSlots). c.args.slot < slot_count s) (sym c.self.view_is) c.requires) in
-    omega (arith, at.deep)
-
-pub overflow_mul-result : goal.overflow_mul-result
-overflow_mul-result c =
-    let at = placed (slots_of c.self.inside.style c.self.inside.x c.self.inside.y c.self.inside.z) c.self.inside.points c.width-wide.result c.width-high.result c.args.slot c.self.invariant.0 c.self.invariant.1 c.width-wide.ensures c.width-high.ensures (subst (λ (s : BoxSlots). c.args.slot < slot_count s) (sym c.self.view_is) c.requires) in
-    omega (arith, at.small.beside)
-
-pub overflow_add-result : goal.overflow_add-result
-overflow_add-result c =
-    let at = placed (slots_of c.self.inside.style c.self.inside.x c.self.inside.y c.self.inside.z) c.self.inside.points c.width-wide.result c.width-high.result c.args.slot c.self.invariant.0 c.self.invariant.1 c.width-wide.ensures c.width-high.ensures (subst (λ (s : BoxSlots). c.args.slot < slot_count s) (sym c.self.view_is) c.requires) in
-    omega (arith, at.small.row)
-
-pub overflow_mul-result-2 : goal.overflow_mul-result-2
-overflow_mul-result-2 c =
-    let at = placed (slots_of c.self.inside.style c.self.inside.x c.self.inside.y c.self.inside.z) c.self.inside.points c.width-wide.result c.width-high.result c.args.slot c.self.invariant.0 c.self.invariant.1 c.width-wide.ensures c.width-high.ensures (subst (λ (s : BoxSlots). c.args.slot < slot_count s) (sym c.self.view_is) c.requires) in
-    omega (arith, at.small.rows)
-
-pub overflow_add-result-2 : goal.overflow_add-result-2
-overflow_add-result-2 c =
-    let at = placed (slots_of c.self.inside.style c.self.inside.x c.self.inside.y c.self.inside.z) c.self.inside.points c.width-wide.result c.width-high.result c.args.slot c.self.invariant.0 c.self.invariant.1 c.width-wide.ensures c.width-high.ensures (subst (λ (s : BoxSlots). c.args.slot < slot_count s) (sym c.self.view_is) c.requires) in
-    omega (arith, at.small.cell)
-
-pub overflow_mul-result-3 : goal.overflow_mul-result-3
-overflow_mul-result-3 c =
-    let at = placed (slots_of c.self.inside.style c.self.inside.x c.self.inside.y c.self.inside.z) c.self.inside.points c.width-wide.result c.width-high.result c.args.slot c.self.invariant.0 c.self.invariant.1 c.width-wide.ensures c.width-high.ensures (subst (λ (s : BoxSlots). c.args.slot < slot_count s) (sym c.self.view_is) c.requires) in
-    omega (arith, at.small.cells)
-
-pub overflow_add-result-3 : goal.overflow_add-result-3
-overflow_add-result-3 c =
-    let at = placed (slots_of c.self.inside.style c.self.inside.x c.self.inside.y c.self.inside.z) c.self.inside.points c.width-wide.result c.width-high.result c.args.slot c.self.invariant.0 c.self.invariant.1 c.width-wide.ensures c.width-high.ensures (subst (λ (s : BoxSlots). c.args.slot < slot_count s) (sym c.self.view_is) c.requires) in
-    omega (arith, at.small.id)
-
-pub returns-clause-place : goal.returns-clause-place
-returns-clause-place c =
-    let at = placed (slots_of c.self.inside.style c.self.inside.x c.self.inside.y c.self.inside.z) c.self.inside.points c.width-wide.result c.width-high.result c.args.slot c.self.invariant.0 c.self.invariant.1 c.width-wide.ensures c.width-high.ensures (subst (λ (s : BoxSlots). c.args.slot < slot_count s) (sym c.self.view_is) c.requires) in
-    at.place ∙ ap (λ (s : BoxSlots). place_of s c.args.slot) c.self.view_is
-
-pub returns-clause-inside : goal.returns-clause-inside
-returns-clause-inside c =
-    let at = placed (slots_of c.self.inside.style c.self.inside.x c.self.inside.y c.self.inside.z) c.self.inside.points c.width-wide.result c.width-high.result c.args.slot c.self.invariant.0 c.self.invariant.1 c.width-wide.ensures c.width-high.ensures (subst (λ (s : BoxSlots). c.args.slot < slot_count s) (sym c.self.view_is) c.requires) in
-    let same = ap (λ (s : BoxSlots). sites_of s.view) c.self.view_is in
-    omega (arith, at.inside, same)
+pub returns-then-self-clause-inside : goal.returns-then-self-clause-inside
+returns-then-self-clause-inside c =
+    let box : BoxSlots = slots_of c.self.inside.style c.self.inside.x c.self.inside.y c.self.inside.z in
+    let whole = c.self.invariant.2 c.if-self.true in
+    let less : c.args.slot < slot_count (slots_of c.self.inside.style c.self.inside.x c.self.inside.y c.self.inside.z) = subst (λ (s : BoxSlots). c.args.slot < slot_count s) (sym c.self.view_is) c.requires in
+    subst (λ (s : BoxSlots). c.args.slot < sites_of s.view) c.self.view_is (subst (λ n. c.args.slot < n) (all_inside box whole) less)
