@@ -101,14 +101,6 @@ fn obeys_commands(rt: HostRuntime) -> Result<(), TestFailed> {
     Ok(())
 }
 
-#[test]
-fn prints_to_the_screen_and_the_log(rt: HostRuntime) -> Result<(), TestFailed> {
-    let mut bench = Bench::new(rt.alloc())?;
-    bench.obey_all(&rt, &["print hello", "print there"])?;
-    bench.expect(&rt, "hello\nthere\n");
-    Ok(())
-}
-
 /// A command that is refused writes nothing, and the session goes on as if it had not come.
 #[test]
 fn refuses_commands(rt: HostRuntime) -> Result<(), TestFailed> {
@@ -127,17 +119,6 @@ fn refuses_commands(rt: HostRuntime) -> Result<(), TestFailed> {
 /// The first call of the world fails after so many bytes.
 fn fails_at(bench: &mut Bench, call: u64, bytes: u64) -> Result<(), AllocError> {
     bench.world.fail_at.push(Fail { call, bytes })?;
-    Ok(())
-}
-
-#[test]
-fn names_the_screen_that_failed(rt: HostRuntime) -> Result<(), TestFailed> {
-    let mut bench = Bench::new(rt.alloc())?;
-    fails_at(&mut bench, 1, 3)?;
-    let failed = bench.obey("print hello")?;
-    assert!(rt; matches!(failed, Err(Trouble::WriteFault(Target::Screen))));
-    assert!(rt; bench.world.said.as_slice() == b"hel".as_slice());
-    assert!(rt; bench.world.files.get(LOG).is_none());
     Ok(())
 }
 
@@ -177,138 +158,19 @@ fn goes_on_after_a_failed_write(rt: HostRuntime) -> Result<(), TestFailed> {
     Ok(())
 }
 
-/// A site file in which the fifth of ten sites has the value 2.
-const SITE_FILE: &str =
-    "by hand\n10 sites\nValues\n\n10 1\n1 1\n2 1\n3 1\n4 1\n5 2\n6 1\n7 1\n8 1\n9 1\n";
-
 /// A site file that has no value for the first site.
 const BAD_FILE: &str = "by hand\n10 sites\nValues\n\n5 2\n";
-
-/// A session with ten sites, in a world that has this site file.
-fn with_site_file(rt: &impl Abort, alloc: Global, text: &str) -> Result<Bench, TestFailed> {
-    let mut bench = Bench::new(alloc)?;
-    bench.obey_all(rt, &SITES)?;
-    bench.world.put_file("sites", text.as_bytes())?;
-    Ok(bench)
-}
-
-/// A run goes on from the values of a file as from the same values by `set`, and not as before.
-#[test]
-fn reads_a_site_file(rt: HostRuntime) -> Result<(), TestFailed> {
-    let mut bench = with_site_file(&rt, rt.alloc(), SITE_FILE)?;
-    bench.obey_all(&rt, &["read_sites sites"])?;
-    bench.expect(&rt, "");
-    bench.obey_all(&rt, &["run 2"])?;
-    let mut other = Bench::new(rt.alloc())?;
-    other.obey_all(&rt, &SITES)?;
-    other.obey_all(&rt, &["region one block 4 4.5 0 1 0 1"])?;
-    other.obey_all(&rt, &["set site value 2 region one", "run 2"])?;
-    assert!(rt; bench.world.said.as_slice() == other.world.said.as_slice());
-    assert!(rt; bench.world.said.as_slice() != RUN.as_bytes());
-    Ok(())
-}
-
-/// The file that was to be read: it is missing, or could not be read.
-fn unread_file(obeyed: Result<(), Trouble>) -> Option<Text> {
-    match obeyed {
-        Err(Trouble::Refused(Cause::FileMissing(name)) | Trouble::ReadFault(name)) => Some(name),
-        _ => None,
-    }
-}
-
-#[test]
-fn names_a_missing_site_file(rt: HostRuntime) -> Result<(), TestFailed> {
-    let mut bench = with_site_file(&rt, rt.alloc(), SITE_FILE)?;
-    let refused = bench.obey("read_sites other")?;
-    assert!(rt; matches!(refused, Err(Trouble::Refused(_))));
-    let name = unread_file(refused).ok_or("a file")?;
-    assert!(rt; name.as_str() == "other");
-    bench.expect(&rt, "");
-    Ok(())
-}
-
-/// A load that failed names the site file, and leaves the values as they were.
-#[test]
-fn names_the_site_file_that_failed(rt: HostRuntime) -> Result<(), TestFailed> {
-    let mut bench = with_site_file(&rt, rt.alloc(), SITE_FILE)?;
-    fails_at(&mut bench, 1, 0)?;
-    let failed = bench.obey("read_sites sites")?;
-    assert!(rt; matches!(failed, Err(Trouble::ReadFault(_))));
-    let name = unread_file(failed).ok_or("a file")?;
-    assert!(rt; name.as_str() == "sites");
-    bench.obey_all(&rt, &["run 2"])?;
-    bench.expect(&rt, RUN);
-    Ok(())
-}
 
 /// A bad file leaves the values as they were.
 #[test]
 fn keeps_the_values_for_a_bad_site_file(rt: HostRuntime) -> Result<(), TestFailed> {
-    let mut bench = with_site_file(&rt, rt.alloc(), BAD_FILE)?;
+    let mut bench = Bench::new(rt.alloc())?;
+    bench.obey_all(&rt, &SITES)?;
+    bench.world.put_file("sites", BAD_FILE.as_bytes())?;
     let refused = bench.obey("read_sites sites")?;
     assert!(rt; matches!(refused, Err(Trouble::Refused(Cause::MissingId(1)))));
     bench.obey_all(&rt, &["run 2"])?;
     bench.expect(&rt, RUN);
-    Ok(())
-}
-
-/// The second snapshot of ten sites with the value 1.
-const SNAPSHOT: &str =
-    "spk sites at time 2.000000000\n\n10 sites\n\nValues\n\n1 1\n2 1\n3 1\n4 1\n5 1\n6 1\n7 1\n8 1\n9 1\n10 1\n";
-
-/// A dump writes a file for each snapshot, until it is ended.
-#[test]
-fn writes_snapshots(rt: HostRuntime) -> Result<(), TestFailed> {
-    let mut bench = Bench::new(rt.alloc())?;
-    bench.obey_all(&rt, &SITES)?;
-    bench.obey_all(&rt, &["dump 1 sites 2.0 d.*", "run 2", "undump 1", "run 2"])?;
-    let last = bench.world.files.get("d.1").ok_or("a snapshot")?;
-    assert!(rt; last.as_slice() == SNAPSHOT.as_bytes());
-    assert!(rt; bench.world.files.get("d.2").is_none());
-    Ok(())
-}
-
-/// A snapshot comes after the line of its moment; the third call after the header's two starts its file.
-#[test]
-fn names_the_snapshot_that_failed(rt: HostRuntime) -> Result<(), TestFailed> {
-    let mut bench = Bench::new(rt.alloc())?;
-    bench.obey_all(&rt, &SITES)?;
-    bench.obey_all(&rt, &["dump 1 sites 2.0 d.*"])?;
-    fails_at(&mut bench, 5, 0)?;
-    let failed = bench.obey("run 2")?;
-    let name = file_of(failed).ok_or("a file")?;
-    assert!(rt; name.as_str() == "d.0");
-    bench.expect(&rt, "Time Naccept Nreject Nsweeps\n0.000000000 0 0 0\n");
-    Ok(())
-}
-
-#[test]
-fn refuses_dumps(rt: HostRuntime) -> Result<(), TestFailed> {
-    let mut bench = Bench::new(rt.alloc())?;
-    bench.obey_all(&rt, &["dump one text 1.0 a"])?;
-    let refused = bench.obey("dump one sites 1.0 b")?;
-    assert!(rt; matches!(refused, Err(Trouble::Refused(Cause::DumpTwice(_)))));
-    let refused = bench.obey("undump two")?;
-    assert!(rt; matches!(refused, Err(Trouble::Refused(Cause::NoSuchDump(_)))));
-    Ok(())
-}
-
-/// The word with which a command is refused as not built.
-fn unbuilt_word(refused: Result<(), Trouble>) -> Option<Text> {
-    match refused {
-        Err(Trouble::Refused(Cause::NotBuilt(word))) => Some(word),
-        _ => None,
-    }
-}
-
-#[test]
-fn refuses_what_is_not_built(rt: HostRuntime) -> Result<(), TestFailed> {
-    let mut bench = Bench::new(rt.alloc())?;
-    let ranks = [1; 3];
-    let refused = (bench.session).obey(&Command::Processors { ranks }, &mut bench.world);
-    let word = unbuilt_word(refused).ok_or("a word")?;
-    assert!(rt; word.as_str() == "processors");
-    bench.expect(&rt, "");
     Ok(())
 }
 
@@ -318,8 +180,7 @@ fn refuses_sweeps_by_color(rt: HostRuntime) -> Result<(), TestFailed> {
     let mut bench = Bench::new(rt.alloc())?;
     let style = Sweep::Color;
     let refused = (bench.session).obey(&Command::Sweep { style }, &mut bench.world);
-    let word = unbuilt_word(refused).ok_or("a word")?;
-    assert!(rt; word.as_str() == "color");
+    assert!(rt; matches!(refused, Err(Trouble::Refused(Cause::NotBuilt(_)))));
     Ok(())
 }
 
