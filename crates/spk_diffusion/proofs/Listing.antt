@@ -17,7 +17,7 @@ abbrev pub hop_at : (ℕ → ℕ) → ℕ → List ℕ → Event
 hop_at weight mark js = record { mark = mark; weight = weight (get_or js mark 0) }
 
 -- the hop to the next place, if it is vacant
-hops_next : (weight : ℕ → ℕ) (s : Sight) (mark : ℕ) (js : List ℕ) (vacant : Bool)
+pub hops_next : (weight : ℕ → ℕ) (s : Sight) (mark : ℕ) (js : List ℕ) (vacant : Bool)
     → mark < length js
     → is_vacant (slice_index s.values (get_or js mark 0)) ≡ vacant
     → hops_to weight s mark (drop mark js) ≡ (if vacant then hop_at weight mark js ∷ hops_to weight s (mark + 1) (drop (mark + 1) js) else hops_to weight s (mark + 1) (drop (mark + 1) js))

@@ -2,7 +2,7 @@
 
 ghost use Rattle.std.specs.Prelude.{◌≡◌, ◌^◌, ◌<◌, ◌≤◌, ◌==◌, All, IsTrue, count_by, false, length, map, slice_index};
 ghost use Rattle.spk_lattice.specs.Neighbours.{ids_of};
-ghost use Rattle.spk_app.specs.Applications.{listed};
+ghost use Rattle.spk_app.specs.Applications.{listed, propensity};
 ghost use Rattle.spk_app.specs.Sights.{with_written};
 ghost use Rattle.spk_app.specs.Weights.{weight_between};
 ghost use Rattle.spk_diffusion.specs.Diffusion.{crowd_but, diffusion, exchange, hops_to};
@@ -74,9 +74,7 @@ fn count_near<V: View>(view: &V, near: &Neighbours, value: u32) -> u32
 {
     let mut count = 0;
     for j in near.as_slice() {
-        if view.value(*j as usize) == value {
-            count += 1;
-        }
+        count += u32::from(view.value(*j as usize) == value);
     }
     count
 }
@@ -144,6 +142,49 @@ fn weighed_hops<V: View>(
     hops
 }
 
+/// The sum of the weights of the hops to those of some places that are vacant, where energies are off.
+fn free_sum<V: View>(view: &V, near: &Neighbours) -> u64
+    requires few { near.now.count ≤ 26 }
+    requires inside { All (λ j. j < length (V.sight view.now).values) (ids_of near.now) }
+    ensures sum { result ≡ propensity (hops_to (λ _. 2 ^ 30) (V.sight view.now) 0 (ids_of near.now)) }
+    ensures limit { result ≤ 2 ^ 35 }
+{
+    let mut sum = 0;
+    for j in near.as_slice() {
+        if view.value(*j as usize) == VACANT {
+            sum += u64::from(WHOLE_WEIGHT);
+        }
+    }
+    sum
+}
+
+/// The sum of the weights of the hops from an old place to those of some places that are vacant, where energies are linear.
+fn weighed_sum<V: View>(
+    view: &V,
+    old: usize,
+    near: &Neighbours,
+    crowd: u32,
+    weights: &WeightTable,
+) -> u64
+    requires few { near.now.count ≤ 26 }
+    requires inside { All (λ j. j < length (V.sight view.now).values) (ids_of near.now) }
+    requires whole { All (λ j. IsTrue (V.whole view.now j)) (ids_of near.now) }
+    requires crowd { crowd ≤ 26 }
+    ensures sum { result
+        ≡ propensity (hops_to (λ j. weight_between weights.now (crowd_but (V.sight view.now) old j) crowd)
+        (V.sight view.now) 0 (ids_of near.now)) }
+    ensures limit { result ≤ 2 ^ 35 }
+{
+    let mut sum = 0;
+    for j in near.as_slice() {
+        let new = *j as usize;
+        if view.value(new) == VACANT {
+            sum += u64::from(weights.between(crowd_but(view, old, new), crowd));
+        }
+    }
+    sum
+}
+
 /// Two places exchange their values.
 fn exchange<V: View>(view: &mut V, i: usize, j: usize)
     requires i { i < length (V.sight view.old).values }
@@ -193,6 +234,20 @@ impl App for Diffusion {
         } else {
             free_hops(view, &near)
         }
+    }
+
+    fn propensity<V: View, L: Ledger>(&self, view: &V, i: usize, steps: &mut Steps<L>) -> u64 {
+        steps.tick();
+        let value = view.value(i);
+        if value != OCCUPIED {
+            return 0;
+        }
+        let near = view.neighbours(i);
+        if !self.linear {
+            return free_sum(view, &near);
+        }
+        let crowd = count_near(view, &near, OCCUPIED);
+        weighed_sum(view, i, &near, crowd, &self.weights)
     }
 
     fn apply<V: View>(&self, view: &mut V, i: usize, mark: u32) {
