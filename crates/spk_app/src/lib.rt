@@ -11,7 +11,7 @@ pub mod weight_table;
 pub use app::App;
 pub use events::Events;
 pub use near_values::NearValues;
-pub use plain_view::{PlainView, places_beside};
+pub use plain_view::{PlainView, list_beside, places_beside};
 pub use spk_lattice::Neighbours;
 pub use spk_num::Steps;
 pub use view::View;

@@ -1,6 +1,6 @@
 //! The values of a site's neighbours.
 
-ghost use Rattle.std.specs.Prelude.{◌≡◌, ◌<◌, ◌≤◌, ◌==◌, ◌++◌, [], ◌∷◌, IfNone, IfSome, drop, filter, length, not};
+ghost use Rattle.std.specs.Prelude.{◌≡◌, ◌<◌, ◌≤◌, ◌==◌, ◌++◌, [], ◌∷◌, IfNone, IfSome, drop, filter, length, not, slice_set};
 
 use std::marker::Model;
 
@@ -39,6 +39,23 @@ impl NearValues {
     {
         self.values[self.count as usize] = value;
         self.count += 1;
+    }
+
+    /// Makes the list so long, with any values.
+    pub fn set_len(&mut self, count: u32)
+        requires { count ≤ 26 }
+        ensures { length self.new ≡ count }
+    {
+        self.count = count;
+    }
+
+    /// Replaces a value. There are 26 at most.
+    pub fn set(&mut self, k: usize, value: u32)
+        requires k { k < length self.old }
+        requires few { k < 26 }
+        ensures { self.new ≡ slice_set self.old k value }
+    {
+        self.values[k] = value;
     }
 
     /// How many values there are.
@@ -96,6 +113,15 @@ mod tests {
         values.push(3);
         values.push(7);
         assert_eq!(rt; values.as_slice(), [7, 3, 7].as_slice());
+    }
+
+    #[test]
+    fn replaces_values(rt: HostRuntime) {
+        let mut values = NearValues::none();
+        values.set_len(2);
+        values.set(1, 9);
+        values.set(0, 4);
+        assert_eq!(rt; values.as_slice(), [4, 9].as_slice());
     }
 
     #[test]

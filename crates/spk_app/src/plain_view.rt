@@ -48,6 +48,22 @@ impl PlainView {
     }
 }
 
+/// Lists the neighbours of the site at a place, by their places.
+pub fn list_beside(lattice: &Lattice, place: usize, near: &mut Neighbours)
+    requires { place < sites_of lattice.now }
+    ensures few { near.new.count ≤ 26 }
+    ensures places { ids_of near.new ≡ places_beside lattice.now place }
+    ensures inside { All (λ j. j < sites_of lattice.now) (places_beside lattice.now place) }
+{
+    lattice.known();
+    let site = lattice.site(place as u32 + 1);
+    let count = lattice.degree();
+    near.count = count;
+    'near: for k in 0..count as usize {
+        near.ids[k] = lattice.neighbour(&site, k) - 1;
+    }
+}
+
 /// The neighbours of the site at a place, by their places.
 pub fn places_beside(lattice: &Lattice, place: usize) -> Neighbours
     requires { place < sites_of lattice.now }
@@ -55,16 +71,11 @@ pub fn places_beside(lattice: &Lattice, place: usize) -> Neighbours
     ensures places { ids_of result ≡ places_beside lattice.now place }
     ensures inside { All (λ j. j < sites_of lattice.now) (places_beside lattice.now place) }
 {
-    lattice.known();
-    let site = lattice.site(place as u32 + 1);
-    let count = lattice.degree();
     let mut near = Neighbours {
-        count,
+        count: 0,
         ids: [0; 26],
     };
-    'near: for k in 0..count as usize {
-        near.ids[k] = lattice.neighbour(&site, k) - 1;
-    }
+    list_beside(lattice, place, &mut near);
     near
 }
 

@@ -1,6 +1,6 @@
 //! Views: sites with their values, by places of the view's own.
 
-ghost use Rattle.std.specs.Prelude.{◌≡◌, ℕ, ◌<◌, ◌≤◌, length, slice_index, All, List, Bool, IsTrue, []};
+ghost use Rattle.std.specs.Prelude.{◌≡◌, ℕ, ◌<◌, ◌≤◌, ◌==◌, ◌&&◌, not, count_by, length, slice_index, All, List, Bool, IsTrue, []};
 ghost use Rattle.spk_lattice.specs.Neighbours.{ids_of};
 ghost use Rattle.spk_app.specs.Sights.{Sight, values_near, with_value};
 
@@ -38,6 +38,17 @@ pub trait View {
         ensures ids { ids_of result ≡ (sight self.now).near i }
         ensures inside { All (λ j. j < length (sight self.now).values) ((sight self.now).near i) };
 
+    /// Lists the places beside this one, as `neighbours` does, in a list that the caller has.
+    fn list_near(&self, i: usize, near: &mut Neighbours)
+        requires place { i < length (sight self.now).values }
+        requires whole { IsTrue (whole self.now i) }
+        ensures few { near.new.count ≤ 26 }
+        ensures ids { ids_of near.new ≡ (sight self.now).near i }
+        ensures inside { All (λ j. j < length (sight self.now).values) ((sight self.now).near i) }
+    {
+        *near = self.neighbours(i);
+    }
+
     /// Reads the values at these places, at once.
     fn read_near(&self, i: usize, near: &mut NearValues)
         requires place { i < length (sight self.now).values }
@@ -49,5 +60,22 @@ pub trait View {
         for j in places.as_slice() {
             near.push(self.value(*j as usize));
         }
+    }
+
+    /// How many of the places beside this one have this value, but for one place that isn't counted.
+    fn count_near(&self, i: usize, value: u32, but: usize) -> u32
+        requires place { i < length (sight self.now).values }
+        requires whole { IsTrue (whole self.now i) }
+        ensures count { result ≡ count_by (λ j. not (j == but) && (slice_index (sight self.now).values j == value)) ((sight self.now).near i) }
+        ensures few { result ≤ 26 }
+    {
+        let places = self.neighbours(i);
+        let mut count = 0;
+        for j in places.as_slice() {
+            let place = *j as usize;
+            let has_value = self.value(place) == value;
+            count += u32::from(place != but && has_value);
+        }
+        count
     }
 }

@@ -1,11 +1,11 @@
 //! Diffusion: atoms that hop to vacant sites beside them.
 
-ghost use Rattle.std.specs.Prelude.{◌≡◌, ◌^◌, ◌<◌, ◌≤◌, ◌==◌, All, IsTrue, count_by, false, length, map, slice_index};
+ghost use Rattle.std.specs.Prelude.{◌≡◌, ◌^◌, ◌<◌, ◌≤◌, ◌==◌, All, IsTrue, count_by, false, filter, length, map, slice_index, sum_by};
 ghost use Rattle.spk_lattice.specs.Neighbours.{ids_of};
-ghost use Rattle.spk_app.specs.Applications.{listed, propensity};
+ghost use Rattle.spk_app.specs.Applications.{listed};
 ghost use Rattle.spk_app.specs.Sights.{with_written};
 ghost use Rattle.spk_app.specs.Weights.{weight_between};
-ghost use Rattle.spk_diffusion.specs.Diffusion.{crowd_but, diffusion, exchange, hops_to};
+ghost use Rattle.spk_diffusion.specs.Diffusion.{crowd_but, diffusion, exchange, hops_to, is_vacant};
 ghost use Rattle.spk_diffusion.specs.Laws.{diffusion_bounded, diffusion_narrow, diffusion_stays_valid};
 ghost use Rattle.spk_diffusion.specs.Locality.{diffusion_local};
 
@@ -65,8 +65,16 @@ impl Diffusion {
     }
 }
 
+/// A list of no places, into which a view lists some.
+fn no_neighbours() -> Neighbours {
+    Neighbours {
+        count: 0,
+        ids: [0; 26],
+    }
+}
+
 /// How many of some places have this value.
-fn count_near<V: View>(view: &V, near: &Neighbours, value: u32) -> u32
+fn count_among<V: View>(view: &V, near: &Neighbours, value: u32) -> u32
     requires few { near.now.count ≤ 26 }
     requires inside { All (λ j. j < length (V.sight view.now).values) (ids_of near.now) }
     ensures count { result ≡ count_by (λ v. v == value) (map (slice_index (V.sight view.now).values) (ids_of near.now)) }
@@ -86,15 +94,7 @@ fn crowd_but<V: View>(view: &V, old: usize, new: usize) -> u32
     ensures count { result ≡ crowd_but (V.sight view.now) old new }
     ensures few { result ≤ 26 }
 {
-    let near = view.neighbours(new);
-    let mut crowd = 0;
-    for k in near.as_slice() {
-        let place = *k as usize;
-        if place != old && view.value(place) == OCCUPIED {
-            crowd += 1;
-        }
-    }
-    crowd
+    view.count_near(new, OCCUPIED, old)
 }
 
 /// The hops to those of some places that are vacant, where energies are off.
@@ -142,23 +142,25 @@ fn weighed_hops<V: View>(
     hops
 }
 
-/// The sum of the weights of the hops to those of some places that are vacant, where energies are off.
-fn free_sum<V: View>(view: &V, near: &Neighbours) -> u64
-    requires few { near.now.count ≤ 26 }
-    requires inside { All (λ j. j < length (V.sight view.now).values) (ids_of near.now) }
-    ensures sum { result ≡ propensity (hops_to (λ _. 2 ^ 30) (V.sight view.now) 0 (ids_of near.now)) }
-    ensures limit { result ≤ 2 ^ 35 }
+/// Drops those of some places that aren't vacant. Nothing is skipped, as a jump that can't be foreseen takes longer than to
+/// write a place that is overwritten.
+fn keep_vacant<V: View>(view: &V, near: &mut Neighbours)
+    requires few { near.old.count ≤ 26 }
+    requires inside { All (λ j. j < length (V.sight view.now).values) (ids_of near.old) }
+    ensures few { near.new.count ≤ 26 }
+    ensures ids { ids_of near.new ≡ filter (λ j. is_vacant (slice_index (V.sight view.now).values j)) (ids_of near.old) }
 {
-    let mut sum = 0;
-    for j in near.as_slice() {
-        if view.value(*j as usize) == VACANT {
-            sum += u64::from(WHOLE_WEIGHT);
-        }
+    let mut kept = 0;
+    'places: for k in 0..near.count as usize {
+        let place = near.ids[k];
+        near.ids[kept] = place;
+        kept += usize::from(view.value(place as usize) == VACANT);
     }
-    sum
+    near.count = kept as u32;
 }
 
-/// The sum of the weights of the hops from an old place to those of some places that are vacant, where energies are linear.
+/// The sum of the weights of the hops from an old place to each of some places, where energies are linear. `crowd` is how many
+/// neighbours of the old place are occupied.
 fn weighed_sum<V: View>(
     view: &V,
     old: usize,
@@ -170,17 +172,12 @@ fn weighed_sum<V: View>(
     requires inside { All (λ j. j < length (V.sight view.now).values) (ids_of near.now) }
     requires whole { All (λ j. IsTrue (V.whole view.now j)) (ids_of near.now) }
     requires crowd { crowd ≤ 26 }
-    ensures sum { result
-        ≡ propensity (hops_to (λ j. weight_between weights.now (crowd_but (V.sight view.now) old j) crowd)
-        (V.sight view.now) 0 (ids_of near.now)) }
+    ensures sum { result ≡ sum_by (λ j. weight_between weights.now (crowd_but (V.sight view.now) old j) crowd) (ids_of near.now) }
     ensures limit { result ≤ 2 ^ 35 }
 {
     let mut sum = 0;
     for j in near.as_slice() {
-        let new = *j as usize;
-        if view.value(new) == VACANT {
-            sum += u64::from(weights.between(crowd_but(view, old, new), crowd));
-        }
+        sum += u64::from(weights.between(crowd_but(view, old, *j as usize), crowd));
     }
     sum
 }
@@ -229,7 +226,7 @@ impl App for Diffusion {
         }
         let near = view.neighbours(i);
         if self.linear {
-            let crowd = count_near(view, &near, OCCUPIED);
+            let crowd = count_among(view, &near, OCCUPIED);
             weighed_hops(view, i, &near, crowd, &self.weights)
         } else {
             free_hops(view, &near)
@@ -242,12 +239,15 @@ impl App for Diffusion {
         if value != OCCUPIED {
             return 0;
         }
-        let near = view.neighbours(i);
-        if !self.linear {
-            return free_sum(view, &near);
+        let mut near = no_neighbours();
+        view.list_near(i, &mut near);
+        let crowd = count_among(view, &near, OCCUPIED);
+        keep_vacant(view, &mut near);
+        if self.linear {
+            weighed_sum(view, i, &near, crowd, &self.weights)
+        } else {
+            near.as_slice().len() as u64 * u64::from(WHOLE_WEIGHT)
         }
-        let crowd = count_near(view, &near, OCCUPIED);
-        weighed_sum(view, i, &near, crowd, &self.weights)
     }
 
     fn apply<V: View>(&self, view: &mut V, i: usize, mark: u32) {
@@ -268,7 +268,7 @@ impl App for Diffusion {
 
     fn energy<V: View>(&self, view: &V, i: usize) -> u32 {
         if self.linear && view.value(i) == OCCUPIED {
-            count_near(view, &view.neighbours(i), VACANT)
+            count_among(view, &view.neighbours(i), VACANT)
         } else {
             0
         }

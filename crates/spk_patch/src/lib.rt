@@ -2,6 +2,7 @@
 #![tactic(auto)]
 
 pub mod patch;
+mod values;
 
 pub use patch::Patch;
 pub use spk_lattice::Cells;

@@ -7,7 +7,8 @@ ghost use Rattle.spk_lattice.specs.Boxes.{IsBoxOf, box_of_cells, whole_box};
 ghost use Rattle.spk_patch.specs.Patches.{IsCell, IsPatch, PatchSites, basis_shown, cell_shown, is_whole, near_of};
 ghost use Rattle.spk_patch.specs.Patches.{patch_frame, place_at, place_count, showing, sight_of};
 
-use spk_app::{NearValues, Neighbours, View, places_beside};
+use crate::values::Values;
+use spk_app::{NearValues, Neighbours, View, list_beside, places_beside};
 use spk_lattice::{Cells, Lattice};
 use std::alloc::{AllocError, Global};
 use std::marker::Model;
@@ -19,7 +20,7 @@ pub struct Patch {
     own: Cells,
     halo: u32,
     wrapped: bool,
-    values: Vec<u32>,
+    values: Values,
 }
 
 impl Model for Patch {
@@ -29,10 +30,10 @@ impl Model for Patch {
     ghost Value = { PatchSites };
 
     ghost view = { λ p.
-        record { lattice = p.lattice; own = p.own; halo = p.halo; wrapped = p.wrapped; values = p.values.items } };
+        record { lattice = p.lattice; own = p.own; halo = p.halo; wrapped = p.wrapped; values = p.values } };
 
     ghost invariant = { λ p.
-        IsPatch (record { lattice = p.lattice; own = p.own; halo = p.halo; wrapped = p.wrapped; values = p.values.items })
+        IsPatch (record { lattice = p.lattice; own = p.own; halo = p.halo; wrapped = p.wrapped; values = p.values })
         × IsTrue p.wrapped };
 }
 
@@ -64,7 +65,7 @@ impl Patch {
             own: *own,
             halo,
             wrapped,
-            values: vec![in alloc; 0; lattice.sites() as usize]?,
+            values: Values::new(alloc, lattice.sites() as usize)?,
         })
     }
 
@@ -81,7 +82,7 @@ impl Patch {
         requires { length values.now ≡ sites_of self.old.lattice }
         ensures { self.new ≡ record self.old { values = showing self.old values.now } }
     {
-        self.values.copy_from_slice(values);
+        self.values.copy_from(values);
     }
 
     /// The lattice that the patch was made for.
@@ -96,7 +97,7 @@ impl Patch {
         requires { i < length self.now.values }
         ensures { result ≡ slice_index self.now.values i }
     {
-        self.values[i]
+        self.values.get(i)
     }
 
     /// The place of a basis point of a cell.
@@ -142,23 +143,40 @@ impl View for Patch {
     ghost whole = { λ p place. is_whole p place };
 
     fn value(&self, i: usize) -> u32 {
-        self.values[i]
+        self.values.get(i)
     }
 
     fn put(&mut self, i: usize, v: u32) {
-        self.values[i] = v;
+        self.values.set(i, v);
     }
 
     fn neighbours(&self, i: usize) -> Neighbours {
         places_beside(&self.lattice, i)
     }
 
+    fn list_near(&self, i: usize, near: &mut Neighbours) {
+        list_beside(&self.lattice, i, near);
+    }
+
     fn read_near(&self, i: usize, near: &mut NearValues) {
         let site = self.lattice.site(i as u32 + 1);
-        'near: for k in 0..self.lattice.degree() as usize {
+        let degree = self.lattice.degree();
+        near.set_len(degree);
+        'near: for k in 0..degree as usize {
             let id = self.lattice.neighbour(&site, k);
-            near.push(self.values[id as usize - 1]);
+            near.set(k, self.values.get(id as usize - 1));
         }
+    }
+
+    fn count_near(&self, i: usize, value: u32, but: usize) -> u32 {
+        let site = self.lattice.site(i as u32 + 1);
+        let mut count = 0;
+        'near: for k in 0..self.lattice.degree() as usize {
+            let place = self.lattice.neighbour(&site, k) as usize - 1;
+            let has_value = self.values.get(place) == value;
+            count += u32::from(place != but && has_value);
+        }
+        count
     }
 }
 

@@ -18,11 +18,11 @@ pub place_new : (places : List ℕ) (j : ℕ) → list_any (λ k. nat_eq k j) pl
 unfolding with_place
 place_new places j new = rw new refl
 
-true_or_false : (b : Bool) → (b ≡ true) ⊎ (b ≡ false)
+pub true_or_false : (b : Bool) → (b ≡ true) ⊎ (b ≡ false)
 true_or_false true = inl refl
 true_or_false false = inr refl
 
-found : (places : List ℕ) (j : ℕ) → list_any (λ k. nat_eq k j) places ≡ true → Contains places j
+pub found : (places : List ℕ) (j : ℕ) → list_any (λ k. nat_eq k j) places ≡ true → Contains places j
 found places j is =
     let there = Any-from_list_any (λ k. nat_eq k j) places is in
     let same : there.1 ≡ j = grind (arith, nat_tests) in

@@ -6,6 +6,7 @@ pub mod Gathering
 pub mod Hops
 pub mod Levels
 pub mod Listed
+pub mod Marking
 pub mod Names
 pub mod PatchSlots
 pub mod Patches

@@ -1,6 +1,6 @@
 -- A box of all cells: its slots are the places.
-use Rattle.std.proofs.Common.{◌≡◌, ℕ, ◌<◌, ap, subst, ◌∙◌}
-use Rattle.spk_lattice.specs.Layout.{Layout, sites_of}
+use Rattle.std.proofs.Common.{◌≡◌, ℕ, ◌<◌, ap, ◌∙◌}
+use Rattle.spk_lattice.specs.Layout.{sites_of}
 use Rattle.spk_lattice.specs.Boxes.{CellBox, layout_of, shown_at, whole_box}
 use Rattle.spk_lattice.proofs.Boxes.{whole_layout, whole_shown}
 use Rattle.spk_turn.specs.Slots.{BoxSlots, place_of, slot_count}

@@ -1,11 +1,17 @@
 -- Places to which few hops lead.
-use Rattle.std.specs.Prelude.{◌≢◌, ℕ, List, [], ◌∷◌, ◌++◌, All, AllPairs, take, ◌==◌, if◌then◌else◌}
+use Rattle.std.specs.Prelude.{◌≡◌, ◌≢◌, ◌<◌, ◌≤◌, ◌%◌, ℕ, List, [], ◌∷◌, ◌++◌, All, AllPairs, slice_index, ◌==◌, if◌then◌else◌}
 use Rattle.std.specs.List.{list_any}
 use Rattle.spk_lattice.specs.Hops.{IsWithin}
-use Rattle.spk_turn.specs.declared.gather.Gathered.{Gathered}
 
-abbrev pub places_of : Gathered → List ℕ
-places_of g = take g.count g.places
+-- a mark is the index of a place that counts and has this remainder
+pub record IsMark (count : ℕ) (places : List ℕ) (remainder mark : ℕ) : Type 0 where
+  pub counts : mark < count
+  pub same : slice_index places mark % 1021 ≡ remainder
+
+-- the remainder of each place that counts has a mark
+pub record AreMarked (count : ℕ) (places marks : List ℕ) : Type 0 where
+  pub few : count ≤ 729
+  pub marked : (k : ℕ) → k < count → IsMark count places (slice_index places k % 1021) (slice_index marks (slice_index places k % 1021))
 
 -- at most so many hops lead to each of these places, and none stands twice
 pub record IsReached (near : ℕ → List ℕ) (hops origin : ℕ) (places : List ℕ) : Type 0 where

@@ -2,6 +2,7 @@
 #![tactic(auto)]
 
 mod gather;
+mod gathered;
 mod mark;
 pub mod patch_turns;
 mod refresh;

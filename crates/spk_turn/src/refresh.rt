@@ -7,7 +7,8 @@ ghost use Rattle.spk_app.specs.Applications.{propensity};
 ghost use Rattle.spk_turn.specs.Ready.{IsReady, IsRightBut, propensities_in};
 ghost use Rattle.spk_turn.specs.Slots.{place_of, places, slot_count};
 
-use crate::gather::{Gathered, gather};
+use crate::gather::gather;
+use crate::gathered::Gathered;
 use crate::slots::Slots;
 use spk_app::{App, Steps, View};
 use spk_solve::Solver;

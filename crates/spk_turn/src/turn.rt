@@ -10,7 +10,7 @@ ghost use Rattle.spk_turn.specs.Slots.{place_of, places, slot_count};
 ghost use Rattle.spk_lattice.specs.Hops.{ReachesAtMost};
 ghost use Rattle.spk_lattice.specs.Layout.{sites_of};
 
-use crate::gather::Gathered;
+use crate::gathered::Gathered;
 use crate::mark::mark_of;
 use crate::refresh::refresh;
 use crate::slots::Slots;

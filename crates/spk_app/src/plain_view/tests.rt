@@ -53,6 +53,27 @@ fn values_near<V: View>(view: &V, i: usize) -> NearValues
     near
 }
 
+/// Lists the places beside a place, in a list that has others.
+fn listed_near<V: View>(view: &V, i: usize) -> Neighbours
+    requires place { i < length (V.sight view.now).values }
+    requires whole { IsTrue (V.whole view.now i) }
+    ensures { result.count ≤ 26 }
+{
+    let mut near = Neighbours {
+        count: 3,
+        ids: [9; 26],
+    };
+    view.list_near(i, &mut near);
+    near
+}
+
+fn counted_near<V: View>(view: &V, i: usize, value: u32, but: usize) -> u32
+    requires place { i < length (V.sight view.now).values }
+    requires whole { IsTrue (V.whole view.now i) }
+{
+    view.count_near(i, value, but)
+}
+
 #[test]
 fn shows_a_square(rt: HostRuntime) -> Result<(), Fail> {
     let mut view = square(&rt, rt.alloc())?;
@@ -76,4 +97,36 @@ fn shows_a_square(rt: HostRuntime) -> Result<(), Fail> {
         [10, 20, 30, 40, 50, 60, 70, 5, 90].as_slice()
     );
     Ok(())
+}
+
+#[test]
+fn lists_and_counts_beside_a_place(rt: HostRuntime) -> Result<(), Fail> {
+    let mut view = square(&rt, rt.alloc())?;
+    let near = [8, 6, 7, 2, 1, 5, 3, 4];
+    assert_eq!(rt; listed_near(&view, 0).as_slice(), near.as_slice());
+    for place in [8, 6, 3] {
+        give(&mut view, place, 5);
+    }
+    assert_eq!(rt; counted_near(&view, 0, 5, 0), 3);
+    assert_eq!(rt; counted_near(&view, 0, 5, 6), 2);
+    assert_eq!(rt; counted_near(&view, 0, 5, 7), 3);
+    assert_eq!(rt; counted_near(&view, 0, 7, 7), 0);
+    Ok(())
+}
+
+#[test]
+fn lists_beside_a_place_of_a_lattice(rt: HostRuntime) {
+    let lattice = match Lattice::new(Style::Sq8, 3, 3, 1) {
+        Ok(lattice) => lattice,
+        Err(_) => panic!(rt; "there is such a lattice"),
+    };
+    assert_eq!(rt; lattice.sites(), 9);
+    let mut near = Neighbours {
+        count: 0,
+        ids: [0; 26],
+    };
+    list_beside(&lattice, 0, &mut near);
+    let want = [8, 6, 7, 2, 1, 5, 3, 4];
+    assert_eq!(rt; near.as_slice(), want.as_slice());
+    assert_eq!(rt; places_beside(&lattice, 0).as_slice(), want.as_slice());
 }

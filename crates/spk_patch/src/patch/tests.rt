@@ -61,6 +61,26 @@ fn values_near<V: View>(view: &V, i: usize) -> NearValues
     near
 }
 
+fn listed_near<V: View>(view: &V, i: usize) -> Neighbours
+    requires place { i < length (V.sight view.now).values }
+    requires whole { IsTrue (V.whole view.now i) }
+    ensures { result.count ≤ 26 }
+{
+    let mut near = Neighbours {
+        count: 3,
+        ids: [9; 26],
+    };
+    view.list_near(i, &mut near);
+    near
+}
+
+fn counted_near<V: View>(view: &V, i: usize, value: u32, but: usize) -> u32
+    requires place { i < length (V.sight view.now).values }
+    requires whole { IsTrue (V.whole view.now i) }
+{
+    view.count_near(i, value, but)
+}
+
 #[test]
 fn has_the_cells_of_a_square(rt: HostRuntime) -> Result<(), Fail> {
     let patch = square(&rt, rt.alloc())?;
@@ -87,6 +107,10 @@ fn shows_a_square(rt: HostRuntime) -> Result<(), Fail> {
         values_near(&patch, 0).as_slice(),
         [10, 70, 2, 4].as_slice()
     );
+    assert_eq!(rt; listed_near(&patch, 0).as_slice(), [9, 2, 1, 3].as_slice());
+    give(&mut patch, 9, 70);
+    assert_eq!(rt; counted_near(&patch, 0, 70, 0), 2);
+    assert_eq!(rt; counted_near(&patch, 0, 70, 9), 1);
     Ok(())
 }
 
@@ -117,5 +141,30 @@ fn has_two_sites_a_cell(rt: HostRuntime) -> Result<(), Fail> {
     assert_eq!(rt; patch.basis_at(3), 1);
     assert_eq!(rt; patch.place_of([2, 1, 2], 0), 46);
     assert_eq!(rt; patch.cell_at(46), [2, 1, 2]);
+    Ok(())
+}
+
+#[test]
+fn keeps_large_values(rt: HostRuntime) -> Result<(), Fail> {
+    let mut patch = square(&rt, rt.alloc())?;
+    for value in [254, 255, 256, 300, 4294967295, 0] {
+        give(&mut patch, 2, value);
+        assert_eq!(rt; patch.value(2), value);
+        assert_eq!(rt;
+            values_near(&patch, 0).as_slice(),
+            [10, value, 2, 4].as_slice()
+        );
+    }
+    patch.fill_from(&[254, 255, 256, 511, 512, 6, 7, 8, 9, 10, 11, 4294967295]);
+    for (place, want) in [
+        (0, 254),
+        (1, 255),
+        (2, 256),
+        (3, 511),
+        (4, 512),
+        (11, 4294967295),
+    ] {
+        assert_eq!(rt; patch.value(place), want);
+    }
     Ok(())
 }

@@ -1,73 +1,57 @@
 use Rattle.std.proofs.Common.{arith, ap, sym, subst, ◌∙◌, ◌≡◌, ◌<◌, ◌+◌, List, ℕ, get_or, length}
-use Rattle.spk_turn.specs.Reached.{places_of, with_places}
+use Rattle.spk_turn.specs.Reached.{with_places}
 use Rattle.spk_turn.proofs.Gathering.{IsWidened, gathered_none, widened_none, widened_more, widened_all, place_read, place_inside, no_more}
 use Rattle.spk_turn.proofs.gather.gather.Goals as goal
 
 pub hops-init : goal.hops-init
-hops-init g c = record {
-  count = omega (arith, c.start.ensures.count);
-  all = ap length c.start.ensures.places ∙ sym c.start.ensures.count;
-  gathered = rw c.start.ensures.places (gathered_none (g.V.View.sight c.args.view.now).near c.args.origin);
-}
+hops-init g c = rw c.start.ensures (gathered_none (g.V.View.sight c.args.view.now).near c.args.origin)
 
 pub loop-k-init : goal.loop-k-init
-loop-k-init g c = record {
-  count = c.hops.invariant.count;
-  all = c.hops.invariant.all;
-  widened = widened_none (g.V.View.sight c.args.view.now).near c.hops.counter (c.hops.counter + 1) c.args.origin c.hops.first (places_of c.hops.gathered) (omega arith) c.hops.invariant.gathered;
-}
+loop-k-init g c = widened_none (g.V.View.sight c.args.view.now).near c.hops.counter (c.hops.counter + 1) c.args.origin c.hops.first c.hops.gathered (omega arith) c.hops.invariant
 
-pub neighbours-near-requires-clause-place : goal.neighbours-near-requires-clause-place
-neighbours-near-requires-clause-place g c =
+pub list_near-requires-clause-place : goal.list_near-requires-clause-place
+list_near-requires-clause-place g c =
     let n : ℕ = length (g.V.View.sight c.args.view.now).values in
     let k : ℕ = c.loop-k.k in
-    let before : List ℕ = places_of c.hops.gathered in
+    let before : List ℕ = c.hops.gathered in
     let less : k < length before = omega (arith, ap length c.as_slice-last.ensures.places) in
-    let place : get_or before k 0 ≡ get_or c.as_slice.result.now k 0 = place_read k before (places_of c.loop-k.gathered) c.as_slice.result.now c.as_slice.ensures.places c.loop-k.invariant.widened.begins less in
+    let place : get_or before k 0 ≡ get_or c.as_slice.result.now k 0 = place_read k before c.loop-k.gathered c.as_slice.result.now c.as_slice.ensures.places c.loop-k.invariant.begins less in
     let inside : get_or before k 0 < n =
-    place_inside (g.V.View.sight c.args.view.now).near n c.hops.counter c.args.origin c.hops.first k before c.requires.mutual c.requires.place less c.hops.invariant.gathered in
+    place_inside (g.V.View.sight c.args.view.now).near n c.hops.counter c.args.origin c.hops.first k before c.requires.mutual c.requires.place less c.hops.invariant in
     subst (λ m. m < n) place inside
 
-pub add_all-requires-clause-room : goal.add_all-requires-clause-room
-add_all-requires-clause-room g c =
+pub add_all-requires : goal.add_all-requires
+add_all-requires g c =
     let near : ℕ → List ℕ = (g.V.View.sight c.args.view.now).near in
     let k : ℕ = c.loop-k.k in
     let hop : ℕ = c.hops.counter + 1 in
-    let before : List ℕ = places_of c.hops.gathered in
+    let before : List ℕ = c.hops.gathered in
     let less : k < length before = omega (arith, ap length c.as_slice-last.ensures.places) in
-    let place : get_or before k 0 ≡ get_or c.as_slice.result.now k 0 = place_read k before (places_of c.loop-k.gathered) c.as_slice.result.now c.as_slice.ensures.places c.loop-k.invariant.widened.begins less in
-    let beside : c.as_slice-in-loop-k.result.now ≡ near (get_or before k 0) = c.as_slice-in-loop-k.ensures.ids ∙ c.neighbours-near.ensures.ids ∙ ap near (sym place) in
-    let after : List ℕ = with_places (places_of c.loop-k.gathered) (near (get_or before k 0)) in
+    let place : get_or before k 0 ≡ get_or c.as_slice.result.now k 0 = place_read k before c.loop-k.gathered c.as_slice.result.now c.as_slice.ensures.places c.loop-k.invariant.begins less in
+    let beside : c.as_slice-in-loop-k.result.now ≡ near (get_or before k 0) = c.as_slice-in-loop-k.ensures.ids ∙ c.list_near.ensures.ids ∙ ap near (sym place) in
+    let after : List ℕ = with_places c.loop-k.gathered (near (get_or before k 0)) in
     let widened : IsWidened near hop c.args.origin (k + 1) before after =
-    widened_more near c.hops.counter hop c.args.origin c.hops.first k before (places_of c.loop-k.gathered) (omega arith) less c.hops.invariant.gathered c.loop-k.invariant.widened in
+    widened_more near c.hops.counter hop c.args.origin c.hops.first k before c.loop-k.gathered (omega arith) less c.hops.invariant c.loop-k.invariant in
     rw beside (no_more near hop c.args.hops c.args.origin 729 after (omega arith) widened.reached c.requires.room)
 
 pub loop-k-preserved : goal.loop-k-preserved
 loop-k-preserved g c =
     let near : ℕ → List ℕ = (g.V.View.sight c.args.view.now).near in
     let k : ℕ = c.loop-k.k in
-    let before : List ℕ = places_of c.hops.gathered in
+    let before : List ℕ = c.hops.gathered in
     let less : k < length before = omega (arith, ap length c.as_slice-last.ensures.places) in
-    let place : get_or before k 0 ≡ get_or c.as_slice.result.now k 0 = place_read k before (places_of c.loop-k.gathered) c.as_slice.result.now c.as_slice.ensures.places c.loop-k.invariant.widened.begins less in
-    let beside : c.as_slice-in-loop-k.result.now ≡ near (get_or before k 0) = c.as_slice-in-loop-k.ensures.ids ∙ c.neighbours-near.ensures.ids ∙ ap near (sym place) in
-    record {
-      count = c.add_all.ensures.count;
-      all = c.add_all.ensures.all;
-      widened = rw (c.add_all.ensures.places, beside)
-          (widened_more near c.hops.counter (c.hops.counter + 1) c.args.origin c.hops.first k before (places_of c.loop-k.gathered) (omega arith) less c.hops.invariant.gathered c.loop-k.invariant.widened);
-    }
+    let place : get_or before k 0 ≡ get_or c.as_slice.result.now k 0 = place_read k before c.loop-k.gathered c.as_slice.result.now c.as_slice.ensures.places c.loop-k.invariant.begins less in
+    let beside : c.as_slice-in-loop-k.result.now ≡ near (get_or before k 0) = c.as_slice-in-loop-k.ensures.ids ∙ c.list_near.ensures.ids ∙ ap near (sym place) in
+    rw (c.add_all.ensures, beside)
+    (widened_more near c.hops.counter (c.hops.counter + 1) c.args.origin c.hops.first k before c.loop-k.gathered (omega arith) less c.hops.invariant c.loop-k.invariant)
 
 pub hops-preserved : goal.hops-preserved
 hops-preserved g c =
-    let before : List ℕ = places_of c.hops.gathered in
+    let before : List ℕ = c.hops.gathered in
     let are : c.as_slice-last.result.now ≡ before = c.as_slice-last.ensures.places in
-    record {
-      count = c.loop-k.invariant.count;
-      all = c.loop-k.invariant.all;
-      gathered = rw are
-          (widened_all (g.V.View.sight c.args.view.now).near c.hops.counter (c.hops.counter + 1) c.args.origin c.hops.first c.loop-k.k before (places_of c.loop-k.gathered) (omega arith) (omega (arith, ap length are)) c.hops.invariant.gathered c.loop-k.invariant.widened);
-    }
+    rw are
+    (widened_all (g.V.View.sight c.args.view.now).near c.hops.counter (c.hops.counter + 1) c.args.origin c.hops.first c.loop-k.k before c.loop-k.gathered (omega arith) (omega (arith, ap length are)) c.hops.invariant c.loop-k.invariant)
 
 pub returns-clause-at_most : goal.returns-clause-at_most
 returns-clause-at_most g c = λ most room.
-    omega (arith, c.hops.invariant.all, no_more (g.V.View.sight c.args.view.now).near c.hops.counter c.args.hops c.args.origin most (places_of c.hops.gathered) (omega arith) c.hops.invariant.gathered.reached room)
+    no_more (g.V.View.sight c.args.view.now).near c.hops.counter c.args.hops c.args.origin most c.hops.gathered (omega arith) c.hops.invariant.reached room

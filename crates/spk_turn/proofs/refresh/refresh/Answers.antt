@@ -1,4 +1,4 @@
-use Rattle.std.proofs.Common.{arith, ◌≡◌, ◌+◌, ◌≤◌, List, ℕ, refl, subst, ◌∙◌}
+use Rattle.std.proofs.Common.{arith, ap, length, ◌≡◌, ◌+◌, ◌≤◌, List, ℕ, refl, subst, ◌∙◌}
 use Rattle.spk_lattice.specs.Hops.{ReachesAtMost}
 use Rattle.spk_turn.specs.Ready.{IsRightBut}
 use Rattle.spk_turn.specs.Slots.{places}
@@ -26,5 +26,5 @@ returns-clause-afresh g c = last_right _ _ _ _ _ c.loop-other.other-index c.loop
 pub returns-clause-cost : goal.returns-clause-cost
 returns-clause-cost g c = λ most reach.
     let hops : g.A.App.PROP + g.A.App.STEP ≡ c.PROP.result + c.STEP.result = omega (arith, c.PROP.ensures, c.STEP.ensures) in
-    let few : c.gather.new.gathered.count ≤ most = c.gather.ensures.at_most most (subst (λ n. ReachesAtMost (g.V.View.sight c.args.view.now).near n c.args.place most) hops reach) in
-    omega (arith, c.loop-other.invariant.cost, few, c.as_slice-other-items.ensures.count)
+    let few : length c.gather.new.gathered ≤ most = c.gather.ensures.at_most most (subst (λ n. ReachesAtMost (g.V.View.sight c.args.view.now).near n c.args.place most) hops reach) in
+    omega (arith, c.loop-other.invariant.cost, few, ap length c.as_slice-other-items.ensures.places)

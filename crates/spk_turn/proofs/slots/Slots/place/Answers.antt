@@ -1,4 +1,4 @@
-use Rattle.std.proofs.Common.{◌≡◌, ◌<◌, sym, ap, ◌∙◌, subst}
+use Rattle.std.proofs.Common.{◌<◌, sym, ap, ◌∙◌, subst}
 use Rattle.spk_lattice.specs.Layout.{sites_of}
 use Rattle.spk_turn.specs.Slots.{BoxSlots, place_of, slot_count, slots_of}
 use Rattle.spk_turn.proofs.WholeSlots.{all_inside, same_place}

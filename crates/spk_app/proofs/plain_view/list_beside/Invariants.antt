@@ -1,6 +1,6 @@
 use Rattle.std.proofs.Common.{◌≡◌}
 use Rattle.spk_app.proofs.Places.{FirstPlaces}
-use Rattle.spk_app.proofs.plain_view.places_beside.Given as goal
+use Rattle.spk_app.proofs.plain_view.list_beside.Given as goal
 
 abbrev pub invariant-near : goal.invariant-near
 invariant-near l = record {

@@ -1,6 +1,6 @@
 use Rattle.std.proofs.Common.{◌≡◌, ◌≤◌, ◌==◌, count_by, map, take}
 use Rattle.std.specs.Prelude.{slice_index}
-use Rattle.spk_diffusion.proofs.diffusion.count_near.Given as goal
+use Rattle.spk_diffusion.proofs.diffusion.count_among.Given as goal
 
 abbrev pub invariant-loop-j : goal.invariant-loop-j
 invariant-loop-j g l = record {

@@ -2,7 +2,7 @@ use Rattle.std.proofs.Common.{◌≡◌, ◌+◌, ◌∙◌, sym, ap, get_or, ar
 use Rattle.spk_lattice.specs.Neighbours.{IsId, nb}
 use Rattle.spk_lattice.proofs.Ways.{all_exist, near_degree}
 use Rattle.spk_app.proofs.Places.{places_more, places_all, places_inside}
-use Rattle.spk_app.proofs.plain_view.places_beside.Goals as goal
+use Rattle.spk_app.proofs.plain_view.list_beside.Goals as goal
 
 pub near-preserved : goal.near-preserved
 near-preserved c =
