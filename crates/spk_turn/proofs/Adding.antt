@@ -28,7 +28,7 @@ found places j is =
     let same : there.1 ≡ j = grind (arith, nat_tests) in
     (there.0, there.2, get_or_default places there.0 j there.1 there.2 ∙ there.3 ∙ same)
 
-missing : (places : List ℕ) (j : ℕ) → list_any (λ k. nat_eq k j) places ≡ false → Contains places j → ⊥
+pub missing : (places : List ℕ) (j : ℕ) → list_any (λ k. nat_eq k j) places ≡ false → Contains places j → ⊥
 missing places j is (k, less, at) =
     let hit : nat_eq (get_or places k j) j ≡ true = grind (arith, nat_tests) in
     let any : list_any (λ k. nat_eq k j) places ≡ true = list_any_at (λ k. nat_eq k j) places k j less hit in
@@ -110,3 +110,16 @@ places_have places (j ∷ js) k (suc at, less, is) = places_have (with_place pla
 -- one place more is no longer than all of them
 pub place_fits : (places : List ℕ) (j most : ℕ) (js : List ℕ) → length (with_places (with_place places j) js) ≤ most → length (with_place places j) ≤ most
 place_fits places j most js room = omega (arith, begins_longer (with_place places j) (with_places (with_place places j) js) (places_begin (with_place places j) js))
+
+-- each place that is added makes the list longer by one at most
+pub place_longer : (places : List ℕ) (j : ℕ) → length (with_place places j) ≤ length places + 1
+place_longer places j =
+    elim (place_cases places j) [
+      | inl there ↦ omega (arith, ap length there.1)
+      | inr new ↦ omega (arith, ap length new.1, length_push places j)
+    ]
+
+pub places_longer : (places js : List ℕ) → length (with_places places js) ≤ length places + length js
+unfolding with_places
+places_longer places [] = omega arith
+places_longer places (j ∷ js) = omega (arith, places_longer (with_place places j) js, place_longer places j)

@@ -3,7 +3,7 @@ use Rattle.std.proofs.Common.{◌≡◌, ◌≢◌, ℕ, zero, suc, ◌+◌, ◌
 use Rattle.std.proofs.lemmas.List.{length-set, length-map, get_or-map, ext_get_or, drop_more, drop_all}
 use Rattle.std.proofs.lemmas.Bool.{cases_eq}
 use Rattle.std.specs.Prelude.{Contains}
-use Rattle.spk_lattice.specs.Hops.{IsWithin}
+use Rattle.spk_turn.specs.Reached.{IsNear}
 use Rattle.spk_app.specs.Sights.{Sight}
 use Rattle.spk_app.specs.Applications.{Application}
 use Rattle.spk_sched.specs.Turns.{propensities}
@@ -76,15 +76,15 @@ next_first todo k place less is = rw is (drop_more todo k 0 less)
 pub last_right : (app : Application) (sight : Sight) (places kept todo : List ℕ) (k : ℕ) → length todo ≤ k → IsRightBut app sight places kept (drop k todo) → kept ≡ propensities_in app sight places
 last_right app sight places kept todo k past but = all_right app sight places kept (subst (λ (xs : List ℕ). IsRightBut app sight places kept xs) (drop_all k todo past) but)
 
--- after an event only places within so many hops may be wrong
-pub first_right : (app : Application) (sight : Sight) (places kept todo : List ℕ) (hops origin : ℕ)
+-- after an event only places within so many hops of those that changed may be wrong
+pub first_right : (app : Application) (sight : Sight) (places kept todo : List ℕ) (hops : ℕ) (changed : List ℕ)
     → length kept ≡ length places
-    → ((slot : ℕ) → slot < length places → (IsWithin sight.near hops origin (get_or places slot 0) → ⊥) → get_or kept slot 0 ≡ propensity_in app sight (get_or places slot 0))
-    → ((other : ℕ) → IsWithin sight.near hops origin other → Contains todo other)
+    → ((slot : ℕ) → slot < length places → (IsNear sight.near hops changed (get_or places slot 0) → ⊥) → get_or kept slot 0 ≡ propensity_in app sight (get_or places slot 0))
+    → ((other : ℕ) → IsNear sight.near hops changed other → Contains todo other)
     → IsRightBut app sight places kept (drop 0 todo)
-first_right app sight places kept todo hops origin all stale covers = record {
+first_right app sight places kept todo hops changed all right covers = record {
   all = all;
-  right = λ slot within lacks. stale slot within (λ near. lacks (covers (get_or places slot 0) near));
+  right = λ slot within lacks. right slot within (λ near. lacks (covers (get_or places slot 0) near));
 }
 
 -- the first so many are right

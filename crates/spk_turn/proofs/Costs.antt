@@ -1,17 +1,9 @@
 -- The steps that events take.
 use Rattle.std.proofs.Common.{◌≡◌, ℕ, ◌+◌, ◌-◌, ◌*◌, ◌^◌, ◌<◌, ◌≤◌, min, List, length, sym, ap, ◌∙◌, subst, arith}
 use Rattle.spk_lattice.specs.Hops.{ReachesAtMost}
-use Rattle.spk_app.specs.Sights.{Sight, with_written}
-use Rattle.spk_app.specs.Applications.{Application}
+use Rattle.spk_app.specs.Sights.{Sight}
 use Rattle.spk_sched.specs.declared.counts.Counts.{Counts}
 use Rattle.spk_sched.specs.Turns.{with_accepted}
-
--- an event leaves the places beside each place as they were
-pub reach_stays : (app : Application) (place mark : ℕ) (sight later : Sight) (hops most : ℕ)
-    → later ≡ with_written (app.writes sight place mark) sight
-    → ReachesAtMost sight.near hops place most
-    → ReachesAtMost later.near hops place most
-reach_stays app place mark sight later hops most is reach = subst (λ (near : ℕ → List ℕ). ReachesAtMost near hops place most) (sym (ap (λ (s : Sight). s.near) is)) reach
 
 -- in a view, so many hops lead from each place to at most so many
 abbrev pub AllReach : Sight → ℕ → ℕ → Type 0

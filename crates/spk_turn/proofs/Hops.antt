@@ -1,12 +1,12 @@
 -- Laws of hops that turns use: what is seen from afar stays the same.
-use Rattle.std.proofs.Common.{◌≡◌, ◌≢◌, ℕ, zero, suc, ◌+◌, ◌-◌, ◌<◌, ◌≤◌, List, [], ◌∷◌, map, length, get_or, set, refl, sym, subst, ◌∙◌, arith, get_or-set_other}
-use Rattle.std.proofs.lemmas.List.{length-set, map-id}
+use Rattle.std.proofs.Common.{◌≡◌, ◌≢◌, ℕ, zero, suc, ◌-◌, ◌<◌, ◌≤◌, List, [], ◌∷◌, length, get_or, set, refl, sym, subst, ◌∙◌, arith, get_or-set_other}
+use Rattle.std.proofs.lemmas.List.{length-set}
 use Rattle.std.proofs.lemmas.List.Elements.{All-from_get_or, All-weaker, All-set, All-head, All-tail, Contains-get_or}
 use Rattle.std.specs.Prelude.{All, Contains, slice_index}
 use Rattle.spk_lattice.specs.Hops.{IsWithin, IsMutual, ReachesAtMost}
 use Rattle.spk_lattice.proofs.Hops.{within_self, within_step, within_join, within_back}
 use Rattle.spk_lattice.proofs.Hops as hops
-use Rattle.spk_app.specs.Sights.{Around, Write, written, LooksSame}
+use Rattle.spk_app.specs.Sights.{Around, Write, written}
 
 pub within_inside : (near : ℕ → List ℕ) (n d i j : ℕ) → IsMutual near (λ j. j < n) → i < n → IsWithin near d i j → j < n
 within_inside near n d i j both less there = hops.within_inside near (λ j. j < n) d i j both less there
@@ -36,21 +36,6 @@ around_all near d i P holds = around_from near d i P (λ j _. holds j)
 
 pub around_within : (near : ℕ → List ℕ) (n d i : ℕ) → IsMutual near (λ j. j < n) → i < n → Around d near (λ j. j < n) i
 around_within near n d i both less = around_from near d i (λ j. j < n) (λ j there. within_inside near n d i j both less there)
-
--- a place that more hops lead to looks the same after what is written within step hops
-pub far_looks_same : (near : ℕ → List ℕ) (n prop step i k : ℕ) (old new : List ℕ)
-    → IsMutual near (λ j. j < n)
-    → i < n
-    → k < n
-    → ((j : ℕ) → (IsWithin near step i j → ⊥) → slice_index new j ≡ slice_index old j)
-    → (IsWithin near (prop + step) i k → ⊥)
-    → LooksSame prop (λ j. j) (record { values = old; near = near }) (record { values = new; near = near }) k
-far_looks_same near n prop step i k old new both i_in k_in same far = record {
-  values = around_from near prop k (λ j. slice_index old j ≡ slice_index new j) (λ j there.
-      sym (same j (λ reached. far (within_join near step prop (prop + step) i j k refl reached (within_back near (λ j. j < n) prop k j both k_in there)))));
-  near = around_all near (prop - 1) k (λ j. map (λ j. j) (near j) ≡ near j) (λ j. map-id (near j));
-  once = around_all near prop k (λ j. j ≡ k → j ≡ k) (λ j is. is);
-}
 
 -- a place that no write names keeps its value
 pub written_far : (near : ℕ → List ℕ) (step i j : ℕ) (ws : List Write) (values : List ℕ)

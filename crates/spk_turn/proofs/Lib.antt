@@ -1,5 +1,6 @@
 pub mod Adding
 pub mod Anew
+pub mod Changing
 pub mod Costs
 pub mod Events
 pub mod Gathering

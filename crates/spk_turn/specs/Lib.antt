@@ -1,3 +1,4 @@
+pub mod Noted
 pub mod Reached
 pub mod Ready
 pub mod Sectors

@@ -1,23 +1,23 @@
 //! The places to which few hops lead, each once.
 
-ghost use Rattle.std.specs.Prelude.{◌≡◌, ℕ, ◌<◌, ◌≤◌, length, Contains, IsTrue};
-ghost use Rattle.spk_lattice.specs.Hops.{IsWithin, IsMutual, ReachesAtMost};
-ghost use Rattle.spk_turn.specs.Reached.{IsReached};
+ghost use Rattle.std.specs.Prelude.{◌≡◌, ◌≢◌, ℕ, ◌<◌, ◌≤◌, All, AllPairs, length, Contains, IsTrue};
+ghost use Rattle.spk_lattice.specs.Hops.{IsMutual};
+ghost use Rattle.spk_turn.specs.Reached.{IsNear, IsReached, ReachAtMost};
 
 use crate::gathered::Gathered;
 use spk_app::{Neighbours, View};
 
-/// Gathers anew the places to which at most so many hops lead from a place, each once.
-pub fn gather<V: View>(view: &V, origin: usize, hops: u32, gathered: &mut Gathered)
-    requires place { origin < length (V.sight view.now).values }
+/// Gathers, besides those that are there, the places to which at most so many hops lead from one of them, each once.
+pub fn gather<V: View>(view: &V, hops: u32, gathered: &mut Gathered)
+    requires places { All (λ j. j < length (V.sight view.now).values) gathered.old }
+    requires once { AllPairs (λ a b. a ≢ b) gathered.old }
     requires mutual { IsMutual (V.sight view.now).near (λ j. j < length (V.sight view.now).values) }
     requires whole { (k : ℕ) → IsTrue (V.whole view.now k) }
-    requires room { ReachesAtMost (V.sight view.now).near hops origin 729 }
-    ensures reached { IsReached (V.sight view.now).near hops origin gathered.new }
-    ensures covers { (j : ℕ) → IsWithin (V.sight view.now).near hops origin j → Contains gathered.new j }
-    ensures at_most { (most : ℕ) → ReachesAtMost (V.sight view.now).near hops origin most → length gathered.new ≤ most }
+    requires room { ReachAtMost (V.sight view.now).near hops gathered.old 729 }
+    ensures reached { IsReached (V.sight view.now).near hops gathered.old gathered.new }
+    ensures covers { (j : ℕ) → IsNear (V.sight view.now).near hops gathered.old j → Contains gathered.new j }
+    ensures at_most { (most : ℕ) → ReachAtMost (V.sight view.now).near hops gathered.old most → length gathered.new ≤ most }
 {
-    gathered.start(origin);
     let mut near = Neighbours {
         count: 0,
         ids: [0; 26],
@@ -51,10 +51,12 @@ mod tests {
         let view = PlainView::new(&lattice, vec![in rt.alloc(); 1; sites]?);
         let mut gathered = Gathered::none();
         for (hops, want) in [1, 5, 13, 21, 25].iter().enumerate() {
-            gather(&view, 12, hops as u32, &mut gathered);
+            gathered.start(12);
+            gather(&view, hops as u32, &mut gathered);
             assert_eq!(rt; gathered.as_slice().len(), *want, "at {hops} hops");
         }
-        gather(&view, 12, 1, &mut gathered);
+        gathered.start(12);
+        gather(&view, 1, &mut gathered);
         for place in [7, 11, 12, 13, 17] {
             assert!(rt; gathered.as_slice().contains(&place), "at {place}");
         }

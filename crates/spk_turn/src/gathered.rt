@@ -7,14 +7,14 @@ ghost use Rattle.spk_turn.specs.Reached.{with_place, with_places};
 use std::marker::Model;
 
 /// The most places.
-const MOST: usize = 729;
+pub const MOST: usize = 729;
 
 /// How many marks there are. It is a prime number, so that the rows of most lattices don't fall on the same marks.
 const MARKS: usize = 1021;
 
 /// Places, each once, in the order in which they came. A place's remainder by the number of marks names its mark, which is the
-/// index of the last place that came with the same remainder, if one is there. Where a mark names no such place, it is left
-/// from before and counts for nothing, so none is ever cleared.
+/// index of the last place that came with the same remainder, if one is there. Where none is, the mark counts for nothing. It is
+/// past the last place then, as a mark that is left from before makes a jump that can't be foreseen.
 #[derive(Debug, Drop)]
 pub struct Gathered {
     count: usize,
@@ -49,9 +49,18 @@ impl Gathered {
     pub fn start(&mut self, place: usize)
         ensures { self.new ≡ place ∷ [] }
     {
-        self.places[0] = place;
-        self.marks[place % MARKS] = 0;
-        self.count = 1;
+        self.clear();
+        self.add(place);
+    }
+
+    /// Drops all places.
+    pub fn clear(&mut self)
+        ensures { self.new ≡ [] }
+    {
+        'places: for k in 0..self.count {
+            self.marks[self.places[k] % MARKS] = MOST;
+        }
+        self.count = 0;
     }
 
     /// The places.
@@ -111,6 +120,8 @@ mod tests {
         gathered.add_all(&[1026, 2047, 7, 5, 1026]);
         gathered.add(2047);
         assert_eq!(rt; gathered.as_slice(), [5, 1026, 2047, 7].as_slice());
+        gathered.clear();
+        assert!(rt; gathered.as_slice().is_empty());
         gathered.start(1026);
         gathered.add_all(&[5, 1026, 7]);
         assert_eq!(rt; gathered.as_slice(), [1026, 5, 7].as_slice());

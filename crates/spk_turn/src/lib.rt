@@ -1,6 +1,7 @@
 //! Turns of the sites of a sector: events, one after another, by the kinetic Monte Carlo rule, and sweeps of trials.
 #![tactic(auto)]
 
+mod changes;
 mod gather;
 mod gathered;
 mod mark;

@@ -1,9 +1,9 @@
 //! Propensities in a solver's list that are taken afresh.
 
-ghost use Rattle.std.specs.Prelude.{◌≡◌, ℕ, ◌+◌, ◌<◌, ◌≤◌, ◌∷◌, List, length, slice_index};
-ghost use Rattle.spk_lattice.specs.Hops.{IsWithin, ReachesAtMost};
+ghost use Rattle.std.specs.Prelude.{◌≡◌, ◌≢◌, ℕ, ◌+◌, ◌<◌, ◌≤◌, ◌∷◌, All, AllPairs, List, length, slice_index};
 ghost use Rattle.spk_lattice.specs.Layout.{sites_of};
 ghost use Rattle.spk_app.specs.Applications.{propensity};
+ghost use Rattle.spk_turn.specs.Reached.{IsNear, ReachAtMost};
 ghost use Rattle.spk_turn.specs.Ready.{IsReady, IsRightBut, propensities_in};
 ghost use Rattle.spk_turn.specs.Slots.{place_of, places, slot_count};
 
@@ -64,28 +64,29 @@ pub(crate) fn fill<V: View, A: App, S: Solver, L: Ledger>(
     }
 }
 
-/// Takes the propensities afresh that an event at a place may have changed.
+/// Takes the propensities afresh that an event may have changed, which gave other values to the places that are gathered.
 pub fn refresh<V: View, A: App, S: Solver, L: Ledger>(
     view: &V,
     slots: &Slots,
     app: &A,
     solver: &mut S,
-    place: usize,
     gathered: &mut Gathered,
     steps: &mut Steps<L>,
 )
     requires ready { IsReady (A.rules app.now) (V.whole view.now) (A.PROP + A.STEP) (V.sight view.now) }
     requires view { sites_of slots.now.view ≡ length (V.sight view.now).values }
-    requires place { place < length (V.sight view.now).values }
+    requires inside { All (λ j. j < length (V.sight view.now).values) gathered.old }
+    requires once { AllPairs (λ a b. a ≢ b) gathered.old }
+    requires room { ReachAtMost (V.sight view.now).near A.PROP gathered.old 729 }
     requires all { length (S.list solver.old) ≡ length (places slots.now) }
-    requires stale { (slot : ℕ) → slot < length (places slots.now) →
-        (IsWithin (V.sight view.now).near (A.PROP + A.STEP) place (slice_index (places slots.now) slot) → ⊥) →
+    requires right { (slot : ℕ) → slot < length (places slots.now) →
+        (IsNear (V.sight view.now).near A.PROP gathered.old (slice_index (places slots.now) slot) → ⊥) →
         slice_index (S.list solver.old) slot ≡ propensity ((A.rules app.now).events (V.sight view.now) (slice_index (places slots.now) slot)) }
     ensures afresh { S.list solver.new ≡ propensities_in (A.rules app.now) (V.sight view.now) (places slots.now) }
     ensures capacity { S.capacity solver.new ≡ S.capacity solver.old }
-    ensures cost { (most : ℕ) → ReachesAtMost (V.sight view.now).near (A.PROP + A.STEP) place most → steps.new ≤ steps.old + most }
+    ensures cost { (most : ℕ) → ReachAtMost (V.sight view.now).near A.PROP gathered.old most → steps.new ≤ steps.old + most }
 {
-    gather(view, place, A::PROP + A::STEP, gathered);
+    gather(view, A::PROP, gathered);
     for other in gathered.as_slice() {
         refresh_one(view, slots, app, solver, *other, steps);
     }

@@ -10,7 +10,7 @@ ghost use Rattle.spk_turn.specs.Slots.{place_of, places, slot_count};
 ghost use Rattle.spk_lattice.specs.Hops.{ReachesAtMost};
 ghost use Rattle.spk_lattice.specs.Layout.{sites_of};
 
-use crate::gathered::Gathered;
+use crate::changes::Changes;
 use crate::mark::mark_of;
 use crate::refresh::refresh;
 use crate::slots::Slots;
@@ -28,7 +28,7 @@ fn act<V: View, A: App, S: Solver, L: Ledger>(
     app: &A,
     solver: &mut S,
     chosen: Chosen,
-    gathered: &mut Gathered,
+    changes: &mut Changes,
     steps: &mut Steps<L>,
 )
     requires ready { IsReady (A.rules app.now) (V.whole view.old) (A.PROP + A.STEP) (V.sight view.old) }
@@ -54,8 +54,10 @@ fn act<V: View, A: App, S: Solver, L: Ledger>(
     let place = slots.place(chosen.place);
     let events = app.events(view, place, steps);
     let mark = mark_of(&events, chosen.rest);
+    changes.note(view, place, A::STEP);
     app.apply(view, place, mark);
-    refresh(view, slots, app, solver, place, gathered, steps);
+    changes.find(view);
+    refresh(view, slots, app, solver, &mut changes.changed, steps);
 }
 
 /// Does the next event, if it comes before so many ticks have passed, and gives the time that it took.
@@ -66,7 +68,7 @@ fn event<V: View, A: App, S: Solver, L: Ledger>(
     solver: &mut S,
     stream: &mut Stream,
     rest: u64,
-    gathered: &mut Gathered,
+    changes: &mut Changes,
     steps: &mut Steps<L>,
 ) -> Option<u64>
     requires ready { IsReady (A.rules app.now) (V.whole view.old) (A.PROP + A.STEP) (V.sight view.old) }
@@ -102,7 +104,7 @@ fn event<V: View, A: App, S: Solver, L: Ledger>(
     if ticks >= rest {
         return None;
     }
-    act(view, slots, app, solver, chosen, gathered, steps);
+    act(view, slots, app, solver, chosen, changes, steps);
     Some(ticks)
 }
 
@@ -134,7 +136,7 @@ pub(crate) fn turn<V: View, A: App, S: Solver, L: Ledger>(
         steps.new ≤ steps.old + result.accepted * (most + 1) + (result.accepted + 1) * S.reach (slot_count slots.now) }
 {
     let mut counts = Counts::none();
-    let mut gathered = Gathered::none();
+    let mut changes = Changes::none();
     let mut local = 0;
     'events: for _ in 0..window {
         match event(
@@ -144,7 +146,7 @@ pub(crate) fn turn<V: View, A: App, S: Solver, L: Ledger>(
             solver,
             stream,
             window - local,
-            &mut gathered,
+            &mut changes,
             steps,
         ) {
             Some(ticks) => {
