@@ -1,42 +1,30 @@
 //! The values of a patch's sites.
 
-ghost use Rattle.std.specs.Prelude.{◌≡◌, ◌<◌, IfOk, length, replicate, slice_index, slice_set};
-ghost use Rattle.spk_patch.specs.Bytes.{byte_of};
+ghost use Rattle.std.specs.Prelude.{◌≡◌, ◌<◌, IfOk, IsTrue, length, replicate, slice_index, slice_set};
 
 use std::alloc::{AllocError, Global};
 use std::marker::Model;
 
-/// The byte of each value that has no byte of its own.
-const LARGE: u8 = 255;
+/// The largest value that a byte can hold.
+const LARGEST_BYTE: u32 = 255;
 
-/// The values of a patch's sites by place. Each stands in a word, and in a byte too, which says that it is large where no byte
-/// can say more. Small values, as most are, are read from the bytes alone, of which a cache holds four times as many as of words.
+/// The values of a patch's sites by place. They stand in bytes as long as each of them fits into one, as in most runs, and in
+/// words from the first larger one on. A cache holds four times as many bytes as words.
 #[derive(Debug, Drop)]
 pub struct Values {
-    words: Vec<u32>,
+    small: bool,
     bytes: Vec<u8>,
+    words: Vec<u32>,
 }
 
 impl Model for Values {
-    ghost use Rattle.std.specs.Prelude.{◌≡◌, List, ℕ, map};
-    ghost use Rattle.spk_patch.specs.Bytes.{byte_of};
+    ghost use Rattle.std.specs.Prelude.{◌≡◌, List, ℕ, length, if◌then◌else◌};
 
     ghost Value = { List ℕ };
 
-    ghost view = { λ v. v.words.items };
+    ghost view = { λ v. if v.small then v.bytes.items else v.words.items };
 
-    ghost invariant = { λ v. v.bytes.items ≡ map byte_of v.words.items };
-}
-
-/// The byte of a value.
-fn byte_of(value: u32) -> u8
-    ensures { result ≡ byte_of value }
-{
-    if value < u32::from(LARGE) {
-        value as u8
-    } else {
-        LARGE
-    }
+    ghost invariant = { λ v. length v.bytes.items ≡ length v.words.items };
 }
 
 impl Values {
@@ -45,8 +33,9 @@ impl Values {
         ensures { IfOk result (λ v. v ≡ replicate count 0) }
     {
         Ok(Values {
-            words: vec![in alloc; 0; count]?,
+            small: true,
             bytes: vec![in alloc; 0; count]?,
+            words: vec![in alloc; 0; count]?,
         })
     }
 
@@ -55,11 +44,10 @@ impl Values {
         requires { i < length self.now }
         ensures { result ≡ slice_index self.now i }
     {
-        let byte = self.bytes[i];
-        if byte == LARGE {
-            self.words[i]
+        if self.small {
+            u32::from(self.bytes[i])
         } else {
-            u32::from(byte)
+            self.words[i]
         }
     }
 
@@ -68,8 +56,15 @@ impl Values {
         requires { i < length self.old }
         ensures { self.new ≡ slice_set self.old i value }
     {
-        self.words[i] = value;
-        self.bytes[i] = byte_of(value);
+        if self.small && value > LARGEST_BYTE {
+            copy_bytes(&self.bytes, &mut self.words);
+            self.small = false;
+        }
+        if self.small {
+            self.bytes[i] = value as u8;
+        } else {
+            self.words[i] = value;
+        }
     }
 
     /// Takes these values.
@@ -77,9 +72,34 @@ impl Values {
         requires { length values.now ≡ length self.old }
         ensures { self.new ≡ values.now }
     {
-        self.words.copy_from_slice(values);
-        'bytes: for i in 0..values.len() {
-            self.bytes[i] = byte_of(values[i]);
+        self.small = copy_words(values, &mut self.bytes);
+        if !self.small {
+            self.words.copy_from_slice(values);
         }
     }
+}
+
+/// Copies bytes to words.
+fn copy_bytes(bytes: &Vec<u8>, words: &mut Vec<u32>)
+    requires { length bytes.now.items ≡ length words.old.items }
+    ensures { words.new.items ≡ bytes.now.items }
+{
+    'bytes: for i in 0..bytes.len() {
+        words[i] = u32::from(bytes[i]);
+    }
+}
+
+/// Copies words to bytes as far as they fit, and says whether all did.
+fn copy_words(words: &[u32], bytes: &mut Vec<u8>) -> bool
+    requires { length words.now ≡ length bytes.old.items }
+    ensures all { IsTrue result → bytes.new.items ≡ words.now }
+    ensures length { length bytes.new.items ≡ length words.now }
+{
+    'words: for i in 0..words.len() {
+        if words[i] > LARGEST_BYTE {
+            return false;
+        }
+        bytes[i] = words[i] as u8;
+    }
+    true
 }
