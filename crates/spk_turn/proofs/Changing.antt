@@ -1,10 +1,11 @@
 -- Places that an event changes.
-use Rattle.std.proofs.Common.{◌≡◌, ◌≢◌, ℕ, ◌+◌, ◌<◌, ◌≤◌, List, [], length, length-set, get_or, set, sym, ap, ◌∙◌, subst, inl, inr, arith}
+use Rattle.std.proofs.Common.{◌≡◌, ◌≢◌, ℕ, ◌+◌, ◌<◌, ◌≤◌, List, [], length, length-set, get_or, set, refl, sym, ap, ◌∙◌, subst, inl, inr, arith}
 use Rattle.std.proofs.Math.Nat.{eq-or-lt_of_le}
 use Rattle.std.proofs.lemmas.List.{get_or-set_same, get_or-set_other}
-use Rattle.std.proofs.lemmas.List.Elements.{All-nil, All-push, Contains-get_or}
+use Rattle.std.proofs.lemmas.List.Elements.{All-nil, All-push, All-weaker, Contains-get_or}
 use Rattle.std.proofs.lemmas.List.Quantifiers.{all_pairs_push}
 use Rattle.std.specs.Prelude.{All, AllPairs, Contains, slice_index}
+use Rattle.spk_turn.specs.Noted.{IsChanged}
 use Rattle.spk_turn.specs.Reached.{with_place}
 use Rattle.spk_turn.proofs.Adding.{place_cases, place_has, place_begins, place_longer, begins_keeps}
 use Rattle.spk_turn.proofs.Gathering.{apart}
@@ -28,14 +29,14 @@ noted_more values places before k v less is first = record {
 -- those of the first k places that have other values than before are there
 pub record FirstChanged (values places before changed : List ℕ) (k : ℕ) : Type 0 where
   pub all : (i : ℕ) → i < k → get_or before i 0 ≢ slice_index values (get_or places i 0) → Contains changed (get_or places i 0)
-  pub some : All (Contains places) changed
+  pub other : All (IsChanged values places before) changed
   pub once : AllPairs (λ a b. a ≢ b) changed
   pub few : length changed ≤ k
 
 pub changed_none : (values places before : List ℕ) → FirstChanged values places before [] 0
 changed_none values places before = record {
   all = λ i within. absurd (omega (arith, within));
-  some = All-nil (Contains places);
+  other = All-nil (IsChanged values places before);
   once = λ i j d less within. absurd (omega (arith, less, within));
   few = omega arith;
 }
@@ -53,16 +54,16 @@ unchanged_more values places before changed k v w now was same first = record {
         | inl last ↦ absurd (other (ap (λ n. get_or before n 0) last ∙ sym was ∙ sym same ∙ now ∙ ap (λ n. slice_index values (get_or places n 0)) (sym last)))
         | inr before_k ↦ first.all i before_k other
       ];
-  some = first.some;
+  other = first.other;
   once = first.once;
   few = omega (arith, first.few);
 }
 
-some_more : (places changed : List ℕ) (j : ℕ) → Contains places j → All (Contains places) changed → All (Contains places) (with_place changed j)
-some_more places changed j there all =
+all_more : (P : ℕ → Type 0) (changed : List ℕ) (j : ℕ) → P j → All P changed → All P (with_place changed j)
+all_more P changed j is all =
     elim (place_cases changed j) [
-      | inl old ↦ subst (All (Contains places)) (sym old.1) all
-      | inr new ↦ subst (All (Contains places)) (sym new.1) (All-push (Contains places) changed j all there)
+      | inl old ↦ subst (All P) (sym old.1) all
+      | inr new ↦ subst (All P) (sym new.1) (All-push P changed j all is)
     ]
 
 once_more : (changed : List ℕ) (j : ℕ) → AllPairs (λ a b. a ≢ b) changed → AllPairs (λ a b. a ≢ b) (with_place changed j)
@@ -74,9 +75,10 @@ once_more changed j once =
 
 pub changed_more : (values places before changed : List ℕ) (k : ℕ)
     → k < length places
+    → get_or before k 0 ≢ slice_index values (get_or places k 0)
     → FirstChanged values places before changed k
     → FirstChanged values places before (with_place changed (get_or places k 0)) (k + 1)
-changed_more values places before changed k less first =
+changed_more values places before changed k less apart first =
     let j : ℕ = get_or places k 0 in
     record {
       all = λ i within other.
@@ -85,7 +87,11 @@ changed_more values places before changed k less first =
             | inl last ↦ subst (λ n. Contains (with_place changed j) (get_or places n 0)) (sym last) (place_has changed j)
             | inr before_k ↦ begins_keeps changed (with_place changed j) (get_or places i 0) (place_begins changed j) (first.all i before_k other)
           ];
-      some = some_more places changed j (Contains-get_or places k 0 less) first.some;
+      other = all_more (IsChanged values places before) changed j (k, less, refl, apart) first.other;
       once = once_more changed j first.once;
       few = omega (arith, first.few, place_longer changed j);
     }
+
+-- what changed was noted
+pub were_noted : (values places before changed : List ℕ) → All (IsChanged values places before) changed → All (Contains places) changed
+were_noted values places before changed others = All-weaker (IsChanged values places before) (Contains places) (λ j (k, less, at, other). subst (Contains places) at (Contains-get_or places k 0 less)) changed others

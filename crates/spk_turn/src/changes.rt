@@ -2,7 +2,7 @@
 
 ghost use Rattle.std.specs.Prelude.{◌≡◌, ◌≢◌, ℕ, ◌<◌, ◌≤◌, All, AllPairs, Contains, IsTrue, length, slice_index};
 ghost use Rattle.spk_lattice.specs.Hops.{IsMutual, ReachesAtMost};
-ghost use Rattle.spk_turn.specs.Noted.{AreNoted};
+ghost use Rattle.spk_turn.specs.Noted.{AreNoted, IsChanged};
 
 use crate::gather::gather;
 use crate::gathered::{Gathered, MOST};
@@ -35,7 +35,7 @@ fn gather_changed<V: View>(view: &V, places: &[usize], before: &[u32; MOST], cha
     ensures all { (k : ℕ) → k < length places.now →
         slice_index before.now k ≢ slice_index (V.sight view.now).values (slice_index places.now k) →
         Contains changed.new (slice_index places.now k) }
-    ensures some { All (Contains places.now) changed.new }
+    ensures other { All (IsChanged (V.sight view.now).values places.now before.now) changed.new }
     ensures once { AllPairs (λ a b. a ≢ b) changed.new }
 {
     changed.clear();
@@ -75,7 +75,7 @@ impl Changes {
         ensures all { (k : ℕ) → k < length self.old.places →
             slice_index self.old.before k ≢ slice_index (V.sight view.now).values (slice_index self.old.places k) →
             Contains self.new.changed (slice_index self.old.places k) }
-        ensures some { All (Contains self.old.places) self.new.changed }
+        ensures other { All (IsChanged (V.sight view.now).values self.old.places self.old.before) self.new.changed }
         ensures once { AllPairs (λ a b. a ≢ b) self.new.changed }
     {
         gather_changed(

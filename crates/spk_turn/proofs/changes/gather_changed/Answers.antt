@@ -1,4 +1,4 @@
-use Rattle.std.proofs.Common.{arith, refl, get_or}
+use Rattle.std.proofs.Common.{arith, refl, sym, ◌∙◌, get_or}
 use Rattle.spk_turn.proofs.Adding.{place_longer}
 use Rattle.spk_turn.proofs.Changing.{changed_none, changed_more, unchanged_more}
 use Rattle.spk_turn.proofs.changes.gather_changed.Goals as goal
@@ -13,7 +13,7 @@ add-requires g c = omega (arith, c.loop-k.invariant.few, place_longer c.loop-k.c
 pub loop-k-preserved : goal.loop-k-preserved
 loop-k-preserved g c =
     elim c.if-value-before.branch [
-      | then-value-before w ↦ rw (w.changed-is, w.add.ensures) (changed_more _ c.args.places.now c.args.before.now c.loop-k.changed c.loop-k.k c.loop-k-test.true c.loop-k.invariant)
+      | then-value-before w ↦ rw (w.changed-is, w.add.ensures) (changed_more _ c.args.places.now c.args.before.now c.loop-k.changed c.loop-k.k c.loop-k-test.true (λ same. w.if-value-before.true (c.value.ensures ∙ sym same)) c.loop-k.invariant)
       | else-value-before w ↦ rw w.changed-is (unchanged_more _ c.args.places.now c.args.before.now c.loop-k.changed c.loop-k.k c.value.result _ c.value.ensures refl w.if-value-before.false c.loop-k.invariant)
     ]
 

@@ -4,6 +4,7 @@ use Rattle.spk_app.specs.Sights.{Sight}
 use Rattle.spk_turn.specs.Slots.{places}
 use Rattle.spk_turn.proofs.Anew.{length-propensities}
 use Rattle.spk_turn.proofs.Hops.{reaches_fewer}
+use Rattle.spk_turn.proofs.Changing.{were_noted}
 use Rattle.spk_turn.proofs.Events.{all_seen, still_ready, same_length, same_near, far_stays, reach_changed, changed_inside, noted_inside}
 use Rattle.spk_turn.proofs.Levels.{after_chosen_at}
 use Rattle.spk_turn.proofs.SlotLaws.{all_below, place_at}
@@ -49,14 +50,14 @@ refresh-requires-clause-inside g c =
     let sight : Sight = g.V.View.sight c.args.view.now in
     let less : c.place-place.result < length sight.values = omega (arith, c.place-place.ensures.inside, c.requires.view) in
     rw (same_length (g.A.App.rules c.args.app.now) c.place-place.result c.mark_of-mark.result sight (g.V.View.sight c.apply.new.view) c.apply.ensures.sight)
-    (changed_inside sight.near (length sight.values) c.STEP.result c.place-place.result sight.values c.find.new.self.changed c.note.new.self c.requires.ready.both_ways less c.note.ensures c.find.ensures.some)
+    (changed_inside sight.near (length sight.values) c.STEP.result c.place-place.result sight.values c.find.new.self.changed c.note.new.self c.requires.ready.both_ways less c.note.ensures (were_noted _ _ _ _ c.find.ensures.other))
 
 pub refresh-requires-clause-room : goal.refresh-requires-clause-room
 refresh-requires-clause-room g c =
     let sight : Sight = g.V.View.sight c.args.view.now in
     let less : c.place-place.result < length sight.values = omega (arith, c.place-place.ensures.inside, c.requires.view) in
     subst (λ (near : ℕ → List ℕ). ReachAtMost near g.A.App.PROP c.find.new.self.changed 729) (sym (same_near (g.A.App.rules c.args.app.now) c.place-place.result c.mark_of-mark.result sight (g.V.View.sight c.apply.new.view) c.apply.ensures.sight))
-    (reach_changed sight.near g.A.App.PROP g.A.App.STEP c.place-place.result 729 sight.values c.find.new.self.changed c.note.new.self (rw (← c.STEP.ensures) c.note.ensures) c.find.ensures.some (c.requires.ready.room c.place-place.result less))
+    (reach_changed sight.near g.A.App.PROP g.A.App.STEP c.place-place.result 729 sight.values c.find.new.self.changed c.note.new.self (rw (← c.STEP.ensures) c.note.ensures) (were_noted _ _ _ _ c.find.ensures.other) (c.requires.ready.room c.place-place.result less))
 
 pub refresh-requires-clause-all : goal.refresh-requires-clause-all
 refresh-requires-clause-all g c = ap length c.requires.afresh ∙ length-propensities (g.A.App.rules c.args.app.now) (g.V.View.sight c.args.view.now) (places c.args.slots.now)
@@ -86,7 +87,7 @@ returns-clause-cost g c = λ most reach.
     let sight : Sight = g.V.View.sight c.args.view.now in
     let place : c.place-place.result < length sight.values = omega (arith, c.place-place.ensures.inside, c.requires.view) in
     let near : ReachAtMost sight.near g.A.App.PROP c.find.new.self.changed most =
-    reach_changed sight.near g.A.App.PROP g.A.App.STEP c.place-place.result most sight.values c.find.new.self.changed c.note.new.self (rw (← c.STEP.ensures) c.note.ensures) c.find.ensures.some (reach c.place-place.result place) in
+    reach_changed sight.near g.A.App.PROP g.A.App.STEP c.place-place.result most sight.values c.find.new.self.changed c.note.new.self (rw (← c.STEP.ensures) c.note.ensures) (were_noted _ _ _ _ c.find.ensures.other) (reach c.place-place.result place) in
     let after : ReachAtMost (g.V.View.sight c.apply.new.view).near g.A.App.PROP c.find.new.self.changed most =
     subst (λ (near : ℕ → List ℕ). ReachAtMost near g.A.App.PROP c.find.new.self.changed most) (sym (same_near (g.A.App.rules c.args.app.now) c.place-place.result c.mark_of-mark.result sight (g.V.View.sight c.apply.new.view) c.apply.ensures.sight)) near in
     omega (arith, c.events-events.ensures.step, c.refresh.ensures.cost most after)
