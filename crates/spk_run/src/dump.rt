@@ -152,36 +152,3 @@ impl Dump {
         &self.state
     }
 }
-
-#[cfg(test)]
-mod tests {
-    use super::*;
-    use std::test::Fail;
-
-    /// The name of the file of the snapshot with this number.
-    fn name_of(alloc: Global, file: &str, number: u64) -> Result<String, Fail>
-        requires { length file.now ≤ 255 }
-    {
-        let dump = Dump::new(DumpState {
-            name: Text::copy(alloc, "1")?,
-            style: DumpStyle::Text,
-            delta: 1,
-            file: Text::copy(alloc, file)?,
-            fields: Fields::from_vec(Vec::new(alloc)),
-            next: Some(number),
-            number,
-        });
-        let mut name = String::with_capacity(alloc, NAME_ROOM)?;
-        dump.write_name(&mut name);
-        Ok(name)
-    }
-
-    #[test]
-    fn numbers_files(rt: HostRuntime) -> Result<(), Fail> {
-        for (file, number, want) in [("a*b*", 12, "a12b*"), ("*", 0, "0"), ("plain", 7, "plain")] {
-            let name = name_of(rt.alloc(), file, number)?;
-            assert_eq!(rt; name.as_str(), want);
-        }
-        Ok(())
-    }
-}

@@ -28,8 +28,6 @@ mod solver;
 mod state;
 mod streams;
 mod teller;
-#[cfg(test)]
-mod tests;
 mod values;
 
 pub use answer::{Answer, Target, status};

@@ -110,20 +110,3 @@ impl Values {
         copy_values(&mut self.items, patch);
     }
 }
-
-#[cfg(test)]
-mod tests {
-    use super::*;
-    use std::test::Fail;
-
-    #[test]
-    fn keeps_values(rt: HostRuntime) -> Result<(), Fail> {
-        assert_eq!(rt; Values::new(rt.alloc()).len(), 0);
-        let mut values = Values::filled(rt.alloc(), 3, 7)?;
-        values.set(1, 2);
-        assert_eq!(rt; values.get(1), 2);
-        assert_eq!(rt; values.get(2), 7);
-        assert_eq!(rt; values.len(), 3);
-        Ok(())
-    }
-}

@@ -1,9 +1,9 @@
-//! Commands that a session obeys one by one, and the exit statuses. Whole runs of the program are data of `spk_cases`.
+//! Commands that a session of `spk_run` obeys one by one, and the exit statuses: what no case can say.
 
-use crate::{Answer, Cause, Session, Target, Trouble, status};
 use spk_cmds::{Command, Echo, Input, Options, Settings, command_of};
 use spk_num::sweep::Sweep;
 use spk_num::text::Text;
+use spk_run::{Answer, Cause, Session, Target, Trouble, status};
 use spk_world::{Fail, MemWorld};
 use std::alloc::{AllocError, Global};
 use std::process::Abort;
